@@ -1,0 +1,73 @@
+-- Demand 1, of the definitions: whatever the bytes, the edition and the lent memory, a call ends as document 01 says.
+-- Assumes nothing.
+use Prim.Native.Nat.{ℕ, zero, _+_, _≤_, _<_}
+use native.Mathlib.Nat.{add-zero, le-refl}
+use native.Mathlib.Numerals.{add-one}
+use native.Mathlib.Omega.{arith}
+use mathlib.Core.Path.{_≡_, refl, sym, ap, subst}
+use mathlib.Core.Bool.{Bool, true, false, cond}
+use mathlib.Core.List.{List}
+use borrow.Author.Tests.{leb-true, leb-false}
+use lib.Dec.{leb}
+use lib.ListN.{length, drop}
+use Rattle.format.specs.declared.Check.{Check}
+use Rattle.format.specs.declared.Check.the-variants.{Passed, Failed}
+use Rattle.format.specs.declared.Answer.{Answer}
+use Rattle.format.specs.declared.Answer.the-variants.{Accepted, Refused}
+use Rattle.format.specs.Answer.{Outcome, leftBy}
+use Rattle.format.specs.Rows.{firstRow, headerRows}
+use Rattle.format.specs.Reader.{Parsed, parsed, readingOf, dwellsIn, targetsIn, sheet, segmentsAnswer, readingAnswer, read}
+use Rattle.format.specs.Writer.{writerRows, spell, writingAnswer, write}
+use Rattle.demands.specs.First.{Passes, none, FirstRow, of-header, of-segment, of-end, NoRow}
+use Rattle.demands.specs.Demands.{Reads, Writes, Demand1}
+use Rattle.demands.proofs.Walk.{Stopped, walk}
+
+module _ (edition : ℕ) (l lent : List ℕ) where
+  abbrev answered : Answer → Outcome
+  answered a = record { answer = a; left = leftBy a (sheet edition l) lent }
+
+  stopped : Stopped (readingOf edition l) (drop 32 l) (length (parsed edition l .segments)) (parsed edition l .ending)
+  unfolding parsed
+  stopped =
+      subst (λ (m : ℕ). Stopped (readingOf edition l) (drop 32 l) m (parsed edition l .ending)) (add-zero (length (parsed edition l .segments)))
+      (walk (readingOf edition l) (drop 32 l) (length (drop 32 l)) 0 (drop 32 l) (le-refl (length (drop 32 l))) none)
+
+  segments-read : firstRow (headerRows edition l) ≡ Passed → (c : Check) → parsed edition l .ending ≡ c
+      → Stopped (readingOf edition l) (drop 32 l) (length (parsed edition l .segments)) c
+      → Reads edition l lent (answered (segmentsAnswer (record { segments = parsed edition l .segments; ending = c }) (length (sheet edition l)) (length lent)))
+  unfolding leftBy
+  segments-read h Passed e s = fits (leb (length (sheet edition l)) (length lent)) refl
+    where
+      fits : (b : Bool) → leb (length (sheet edition l)) (length lent) ≡ b
+          → Reads edition l lent (answered (cond b (Accepted (length (parsed edition l .segments)) (dwellsIn (parsed edition l .segments)) (targetsIn (parsed edition l .segments)) (length (sheet edition l))) (Refused 16 0 0)))
+      fits true t = Reads.set-out (record { header = h; segments = s; end = leb-true _ _ t })
+      fits false t = Reads.turned-down (of-end h s (leb-false _ _ t))
+  segments-read h (Failed number field) e s =
+      rw add-one (Reads.turned-down (of-segment h (s .1) (s .2) (s .3)))
+
+  pub reads : Reads edition l lent (read edition l lent)
+  unfolding read readingAnswer leftBy
+  reads = go (firstRow (headerRows edition l)) refl
+    where
+      go : (c : Check) → firstRow (headerRows edition l) ≡ c
+          → Reads edition l lent (answered (elim c [ Passed ↦ segmentsAnswer (parsed edition l) (length (sheet edition l)) (length lent) | Failed number field ↦ Refused number 0 field ]))
+      go Passed e = segments-read e (parsed edition l .ending) refl stopped
+      go (Failed number field) e = Reads.turned-down (of-header e)
+
+pub writes : (x lent : List ℕ) → Writes x lent (write x lent)
+unfolding write writingAnswer leftBy
+writes x lent = go (firstRow (writerRows x (length lent))) refl
+  where
+    answered : Answer → Outcome
+    answered a = record { answer = a; left = leftBy a (spell x) lent }
+
+    go : (c : Check) → firstRow (writerRows x (length lent)) ≡ c
+        → Writes x lent (answered (elim c [
+          | Passed ↦ Accepted (length (parsed 3 (spell x) .segments)) (dwellsIn (parsed 3 (spell x) .segments)) (targetsIn (parsed 3 (spell x) .segments)) (length (spell x))
+          | Failed number field ↦ Refused number 0 0
+        ]))
+    go Passed e = Writes.set-out e
+    go (Failed number field) e = Writes.turned-down e
+
+pub demand-1 : Demand1
+demand-1 = record { reading = reads; writing = writes }

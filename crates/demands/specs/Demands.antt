@@ -1,0 +1,98 @@
+-- The three demands, as statements about the definitions that the public functions' contracts cite: `read edition packet lent` and
+-- `write sheet lent` are the answer and what the lent memory holds afterwards (crate format, specs/Reader.antt and specs/Writer.antt).
+-- The quoted words are the demands'. Their proofs come with the reader and the writer.
+-- Assumes nothing.
+use Prim.Native.Nat.{ℕ, _≤_}
+use mathlib.Core.Path.{_≡_}
+use mathlib.Core.List.{List}
+use lib.ListN.{length, take}
+use Rattle.octets.specs.Octets.{Bytes}
+use Rattle.octets.specs.Layout.{over}
+use Rattle.format.specs.declared.Check.{Check}
+use Rattle.format.specs.declared.Check.the-variants.{Passed, Failed}
+use Rattle.format.specs.declared.Answer.{Answer}
+use Rattle.format.specs.declared.Answer.the-variants.{Accepted, Refused}
+use Rattle.format.specs.Packet.{version}
+use Rattle.format.specs.Answer.{Outcome}
+use Rattle.format.specs.Rows.{firstRow}
+use Rattle.format.specs.New.{New, nothing, found, firstNew}
+use Rattle.format.specs.Reader.{parsed, sheet, read}
+use Rattle.format.specs.Writer.{listed, writerRows, spell, write}
+use Rattle.demands.specs.First.{FirstRow, NoRow}
+use Rattle.demands.specs.Filled.{withheldSheet, filledIn}
+use Rattle.demands.specs.Counts.{count, isKind, isLeader}
+
+abbrev accepted : ℕ → ℕ → ℕ → ℕ → List ℕ → Outcome
+accepted segments dwells targets n left = record { answer = Accepted segments dwells targets n; left = left }
+
+abbrev refused : ℕ → ℕ → ℕ → List ℕ → Outcome
+refused number segment field left = record { answer = Refused number segment field; left = left }
+
+-- ---- Demand 1. A packet "is either set out on a sheet, when no row of document 01 applies, or turned down with the number, segment
+-- and field of the first row that does. A packet turned down leaves the lent sheet as it was."
+pub data Reads (edition : ℕ) (l lent : List ℕ) : Outcome → Type 0 where
+  set-out : {segments dwells targets : ℕ} → NoRow edition l (length lent) segments
+      → Reads edition l lent (accepted segments dwells targets (length (sheet edition l)) (over (sheet edition l) lent))
+  turned-down : {number segment field : ℕ} → FirstRow edition l (length lent) number segment field
+      → Reads edition l lent (refused number segment field lent)
+
+-- "A sheet handed in for writing is treated likewise."
+pub data Writes (x lent : List ℕ) : Outcome → Type 0 where
+  set-out : {segments dwells targets : ℕ} → firstRow (writerRows x (length lent)) ≡ Passed
+      → Writes x lent (accepted segments dwells targets (length (spell x)) (over (spell x) lent))
+  turned-down : {number field : ℕ} → firstRow (writerRows x (length lent)) ≡ Failed number field
+      → Writes x lent (refused number 0 0 lent)
+
+-- "a run of bytes of any length and content, read as Edition 1 or as Edition 3", or as any other number. "Neither asks for a checked input."
+pub record Demand1 : Type 0 where
+  pub reading : (edition : ℕ) (l lent : List ℕ) → Reads edition l lent (read edition l lent)
+  pub writing : (x lent : List ℕ) → Writes x lent (write x lent)
+
+-- ---- Demand 2. "The sheet is the one that the STANAG 4607 tables, as condensed in document 01, give for those bytes": that is the
+-- definition `sheet`, and the counts are the sheet's. "Given a packet buffer long enough, the writer accepts exactly the sheets that
+-- the Edition 3 reading makes of some packet, and returns that packet."
+pub record Counted (x : List ℕ) (segments dwells targets n : ℕ) : Type 0 where
+  pub segments-are : segments ≡ count isLeader (listed x .records)
+  pub dwells-are : dwells ≡ count (isKind 3) (listed x .records)
+  pub targets-are : targets ≡ count (isKind 4) (listed x .records)
+  pub length-is : n ≡ length x
+
+pub record Demand2 : Type 0 where
+  pub counts : (edition : ℕ) (l lent : List ℕ) (s d t n : ℕ) → Bytes l → read edition l lent .answer ≡ Accepted s d t n
+      → Counted (sheet edition l) s d t n
+  pub sheets-are-written : (l lent buffer : List ℕ) (s d t n : ℕ) → Bytes l → read 3 l lent .answer ≡ Accepted s d t n
+      → length l ≤ length buffer
+      → write (take n (read 3 l lent .left)) buffer ≡ accepted s d t (length l) (over l buffer)
+  pub only-sheets-are-written : (x buffer : List ℕ) (s d t n : ℕ) → Bytes x → write x buffer .answer ≡ Accepted s d t n
+      → (l : List ℕ) × Bytes l × (length l ≡ n) × (write x buffer .left ≡ over l buffer)
+      × ((lent : List ℕ) → length lent ≡ length x → read 3 l lent ≡ accepted s d t (length x) x)
+
+-- ---- Demand 3
+
+-- "For every version 3 packet that the Edition 3 reading accepts, the Edition 1 reading, given the same bytes and a lent sheet of the
+-- same length": l is read as Edition 1 onto lent1, and as Edition 3 onto lent3, "whatever the lent sheets held"
+pub record BothRead (l lent1 lent3 : List ℕ) (s d t n : ℕ) : Type 0 where
+  pub are-bytes : Bytes l
+  pub version-3 : version l ≡ 3
+  pub same-length : length lent1 ≡ length lent3
+  pub edition-3 : read 3 l lent3 .answer ≡ Accepted s d t n
+
+-- "none of the four things": "It then answers the same counts and length. Its sheet equals the Edition 3 sheet in every byte but
+-- those of fields D27 and J26 and their marks, which are zero, since these two are withheld. Copy into it every D27 and J26 of the
+-- Edition 3 sheet and mark them as shown: given the sheet so filled in and a buffer at least as long as the packet, whatever it
+-- held, the writer accepts and returns the same packet with the same counts."
+pub record ReadAlike (l lent1 lent3 : List ℕ) (s d t n : ℕ) : Type 0 where
+  pub same-answer : read 1 l lent1 .answer ≡ Accepted s d t n
+  pub same-but : take n (read 1 l lent1 .left) ≡ withheldSheet (take n (read 3 l lent3 .left))
+  pub written-back : (buffer : List ℕ) → length l ≤ length buffer
+      → write (filledIn (take n (read 1 l lent1 .left)) (take n (read 3 l lent3 .left))) buffer ≡ accepted s d t (length l) (over l buffer)
+
+-- "accepts exactly when the packet holds none of the four things"; "If the packet does hold something new, the Edition 1 reading
+-- refuses with 15 and names the first segment that holds any, and the field that document 01 gives for it."
+abbrev pub OlderReading : (l lent1 lent3 : List ℕ) (s d t n : ℕ) → New → Type 0
+OlderReading l lent1 lent3 s d t n nothing = ReadAlike l lent1 lent3 s d t n
+OlderReading l lent1 lent3 s d t n (found segment field) = read 1 l lent1 ≡ refused 15 segment field lent1
+
+pub Demand3 : Type 0
+Demand3 = (l lent1 lent3 : List ℕ) (s d t n : ℕ) → BothRead l lent1 lent3 s d t n
+    → OlderReading l lent1 lent3 s d t n (firstNew 1 (parsed 3 l .segments))

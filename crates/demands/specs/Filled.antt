@@ -1,0 +1,50 @@
+-- The two withheld fields on a sheet: where an Edition 1 and an Edition 3 sheet differ, and the one filled in from the other (demand 3).
+-- Assumes nothing.
+use Prim.Native.Nat.{ℕ}
+use mathlib.Core.Bool.{cond}
+use mathlib.Core.List.{List, [], _∷_, _++_}
+use lib.Dec.{eqb}
+use Rattle.octets.specs.Layout.{replaced, zeroed, copied}
+use Rattle.mask.specs.Fields.{dwellWidths}
+use Rattle.format.specs.Packet.{jobWidths}
+use Rattle.format.specs.Sheet.{Record, recordBytes}
+use Rattle.format.specs.Writer.{listed}
+
+-- the body of a kind 3 is D1 to D31, and the mark of D27 as field 32; that of a kind 8 is J1 to J28, and the mark of J26 as field 29
+abbrev pub dwellBodyWidths : List ℕ
+dwellBodyWidths = 8 ∷ (dwellWidths ++ 1 ∷ [])
+
+abbrev pub jobBodyWidths : List ℕ
+jobBodyWidths = jobWidths ++ 1 ∷ []
+
+-- a record, changed in D27 and its mark, or in J26 and its mark, by f of the table, the field and its mark; others are as they were
+abbrev pub changed : (List ℕ → ℕ → ℕ → List ℕ → List ℕ) → Record → Record
+changed f r = record {
+  kind = r .kind;
+  body = cond (eqb (r .kind) 3) (f dwellBodyWidths 27 32 (r .body)) (cond (eqb (r .kind) 8) (f jobBodyWidths 26 29 (r .body)) (r .body));
+}
+
+-- "those of fields D27 and J26 and their marks, which are zero"
+unfoldable pub withheldRecord : Record → Record
+withheldRecord r = changed (λ ws n mark b. zeroed 1 ws mark (zeroed 1 ws n b)) r
+
+unfoldable pub withheldRecords : List Record → List Record
+withheldRecords [] = []
+withheldRecords (r ∷ rs) = withheldRecord r ∷ withheldRecords rs
+
+-- a sheet with every D27, every J26 and their marks zero, and every other byte as it was
+unfoldable pub withheldSheet : List ℕ → List ℕ
+withheldSheet x = recordBytes (withheldRecords (listed x .records))
+
+-- "Copy into it every D27 and J26 of the Edition 3 sheet and mark them as shown": into r, of q
+unfoldable pub filledRecord : Record → Record → Record
+filledRecord r q = changed (λ ws n mark b. replaced 1 ws mark (1 ∷ []) (copied 1 ws n (q .body) b)) r
+
+unfoldable pub filledRecords : List Record → List Record → List Record
+filledRecords [] qs = []
+filledRecords (r ∷ rs) [] = r ∷ rs
+filledRecords (r ∷ rs) (q ∷ qs) = filledRecord r q ∷ filledRecords rs qs
+
+-- "the sheet so filled in": an Edition 1 sheet, of the Edition 3 sheet of the same packet
+unfoldable pub filledIn : List ℕ → List ℕ → List ℕ
+filledIn x1 x3 = recordBytes (filledRecords (listed x1 .records) (listed x3 .records))

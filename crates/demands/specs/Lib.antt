@@ -1,0 +1,5 @@
+pub mod First
+pub mod Filled
+pub mod Counts
+pub mod Demands
+pub mod Trials

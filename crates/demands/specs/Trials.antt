@@ -1,0 +1,34 @@
+-- Trials of what the demands speak of: a packet with a mission, a dwell with D27 and a target, a job definition with J26, and free text.
+-- Assumes nothing.
+use Prim.Native.Nat.{ℕ}
+use mathlib.Core.Path.{_≡_}
+use mathlib.Core.List.{List, [], _∷_, _++_}
+use lib.ListN.{length}
+use Rattle.octets.specs.Octets.{bytes}
+use Rattle.format.specs.declared.Answer.the-variants.{Accepted}
+use Rattle.format.specs.Samples.{zeros, version3, dwell, d2to9, d24to27, mission, job, freeText, segment}
+use Rattle.format.specs.New.{nothing, found, firstNew}
+use Rattle.format.specs.Reader.{parsed, sheet, read}
+use Rattle.format.specs.Writer.{listed, write}
+use Rattle.demands.specs.Filled.{withheldSheet, filledIn}
+use Rattle.demands.specs.Counts.{count, isKind, isLeader}
+
+unfoldable pub mixed : List ℕ
+mixed = version3 (
+    mission 12 31
+    ++ dwell 0xFFC0_03C0_6000_0000 (d2to9 1 ++ bytes 4 1 ++ bytes 4 1 ++ d24to27 7 0x1234 ++ zeros 4)
+    ++ job 94
+    ++ freeText 33)
+
+unfoldable pub trials : List (Type 0)
+trials =
+    (read 3 mixed (zeros 400) .answer ≡ Accepted 4 1 1 369)
+    ∷ (firstNew 1 (parsed 3 mixed .segments) ≡ nothing)
+    ∷ (read 1 mixed (zeros 400) .answer ≡ Accepted 4 1 1 369)
+    ∷ (sheet 1 mixed ≡ withheldSheet (sheet 3 mixed))
+    ∷ (filledIn (sheet 1 mixed) (sheet 3 mixed) ≡ sheet 3 mixed)
+    ∷ (count isLeader (listed (sheet 3 mixed) .records) ≡ 4)
+    ∷ (count (isKind 3) (listed (sheet 3 mixed) .records) ≡ 1)
+    ∷ (count (isKind 4) (listed (sheet 3 mixed) .records) ≡ 1)
+    ∷ (firstNew 1 (parsed 3 (version3 (mission 1 1 ++ job 96 ++ segment 3 [])) .segments) ≡ found 2 14)
+    ∷ []

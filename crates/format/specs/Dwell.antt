@@ -1,0 +1,60 @@
+-- The body of a dwell: its mask, D2 to D31, and its targets with their positions (document 01, 'Dwell and mask' and 'Positions').
+-- Fields are read off their full widths, where an absent one is zero. D n is the number in Dn, D32 j that in D32.j; the names
+-- with ± read a two's complement number.
+-- Assumes nothing.
+use Prim.Native.Nat.{ℕ, _+_}
+use mathlib.Core.Bool.{cond}
+use mathlib.Core.List.{List}
+use lib.IntN.{ℤ}
+use lib.ListN.{drop}
+use Rattle.octets.specs.Octets.{be}
+use Rattle.octets.specs.Layout.{value, signedValue}
+use Rattle.mask.specs.Fields.{announced, announcedLength, fullFields, dwellWidths, targetWidths, d32}
+use Rattle.position.specs.Position.{latitudeSum, longitudeSum}
+
+-- "D1 is the 8-byte mask."
+unfoldable pub maskOf : List ℕ → ℕ
+maskOf body = be 8 body
+
+-- D2 to D31 at full widths
+unfoldable pub dwellFields : List ℕ → List ℕ
+dwellFields body = fullFields (maskOf body) 2 dwellWidths (drop 8 body)
+
+-- the number in Dn, of D2 to D31 at full widths
+abbrev pub D : ℕ → List ℕ → ℕ
+D n fields = value 2 dwellWidths n fields
+
+abbrev pub D± : ℕ → List ℕ → ℤ
+D± n fields = signedValue 2 dwellWidths n fields
+
+-- "D5 target count"
+unfoldable pub targetCount : List ℕ → ℕ
+targetCount body = D 5 (dwellFields body)
+
+-- "then D5 targets": the body from its first target on, and how many bytes each takes
+unfoldable pub targetsOf : List ℕ → List ℕ
+targetsOf body = drop (8 + announcedLength (maskOf body) 2 dwellWidths) body
+
+abbrev pub targetLength : ℕ → ℕ
+targetLength mask = announcedLength mask (d32 1) targetWidths
+
+-- D32.1 to D32.18 at full widths, of the target at the front of t
+unfoldable pub targetFields : ℕ → List ℕ → List ℕ
+targetFields mask t = fullFields mask (d32 1) targetWidths t
+
+-- the number in D32.j, of D32.1 to D32.18 at full widths
+abbrev pub D32 : ℕ → List ℕ → ℕ
+D32 j target = value (d32 1) targetWidths (d32 j) target
+
+abbrev pub D32± : ℕ → List ℕ → ℤ
+D32± j target = signedValue (d32 1) targetWidths (d32 j) target
+
+-- "D10 and D24 are SA32, D11 and D25 BA32, D32.4 and D32.5 signed 16-bit. Latitude is D32.2, else D32.4 × D10 + D24"
+unfoldable pub latitude : ℕ → List ℕ → List ℕ → ℤ
+latitude mask dwell target =
+    cond (announced mask (d32 2)) (D32± 2 target) (latitudeSum (D32± 4 target) (D± 10 dwell) (D± 24 dwell))
+
+-- "Longitude is D32.3, else D32.5 × D11 + D25"
+unfoldable pub longitude : ℕ → List ℕ → List ℕ → ℕ
+longitude mask dwell target =
+    cond (announced mask (d32 3)) (D32 3 target) (longitudeSum (D32± 5 target) (D 11 dwell) (D 25 dwell))

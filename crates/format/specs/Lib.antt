@@ -1,0 +1,11 @@
+pub mod Packet
+pub mod Dwell
+pub mod Edition
+pub mod Sheet
+pub mod Answer
+pub mod Rows
+pub mod New
+pub mod Reader
+pub mod Writer
+pub mod Samples
+pub mod Trials

@@ -1,0 +1,77 @@
+-- The two readings: a packet of any bytes, read as any edition onto a lent sheet (document 01; demand 1).
+-- Assumes nothing.
+use Prim.Native.Nat.{ℕ, zero, suc, _+_}
+use mathlib.Core.Bool.{cond}
+use mathlib.Core.List.{List, [], _∷_}
+use lib.Dec.{leb, eqb}
+use lib.ListN.{length, drop}
+use Rattle.format.specs.declared.Reading.{Reading}
+use Rattle.format.specs.declared.Check.{Check}
+use Rattle.format.specs.declared.Check.the-variants.{Passed, Failed}
+use Rattle.format.specs.declared.Answer.{Answer}
+use Rattle.format.specs.declared.Answer.the-variants.{Accepted, Refused}
+use Rattle.format.specs.Packet.{version, Segment, typeAt, sizeAt, bodyAt}
+use Rattle.format.specs.Dwell.{targetCount}
+use Rattle.format.specs.Sheet.{headerRecord, packetRecords, recordBytes}
+use Rattle.format.specs.Answer.{Outcome, leftBy}
+use Rattle.format.specs.Rows.{firstRow, headerRows, segmentRows}
+
+-- "Segments fill the rest; there may be none": the segments up to the packet's end (Passed) or to the first to which a row applies
+pub record Parsed : Type 0 where
+  pub segments : List Segment
+  pub ending : Check
+
+abbrev pub onward : Check → Segment → Parsed → Parsed
+onward Passed s rest = record { segments = s ∷ rest .segments; ending = rest .ending }
+onward (Failed number field) s rest = record { segments = []; ending = Failed number field }
+
+-- "those of a segment for each segment in turn"; l is what is left of the packet, and k is at least its length
+unfoldable pub parse : Reading → ℕ → List ℕ → Parsed
+parse r zero l = record { segments = []; ending = Passed }
+parse r (suc k) [] = record { segments = []; ending = Passed }
+parse r (suc k) (x ∷ xs) =
+    let l : List ℕ = x ∷ xs in
+    onward (firstRow (segmentRows r l)) (record { type = typeAt l; body = bodyAt l }) (parse r k (drop (sizeAt l) l))
+
+-- "segments, dwells (type 2 segments), targets"
+unfoldable pub dwellsIn : List Segment → ℕ
+dwellsIn [] = 0
+dwellsIn (s ∷ ss) = cond (eqb (s .type) 2) 1 0 + dwellsIn ss
+
+unfoldable pub targetsIn : List Segment → ℕ
+targetsIn [] = 0
+targetsIn (s ∷ ss) = cond (eqb (s .type) 2) (targetCount (s .body)) 0 + targetsIn ss
+
+-- the packet l, read as the edition
+abbrev pub readingOf : ℕ → List ℕ → Reading
+readingOf edition l = record { edition = edition; version = version l }
+
+-- its segments, behind the header's 32 bytes
+unfoldable pub parsed : ℕ → List ℕ → Parsed
+parsed edition l = parse (readingOf edition l) (length (drop 32 l)) (drop 32 l)
+
+-- its sheet: the header's record, and those of its segments
+unfoldable pub sheet : ℕ → List ℕ → List ℕ
+sheet edition l = recordBytes (headerRecord l ∷ packetRecords (readingOf edition l) (parsed edition l .segments))
+
+-- the answer after the header, where the sheet has so many bytes and so many are lent. "16 sheet too short" comes at the end
+abbrev pub segmentsAnswer : Parsed → ℕ → ℕ → Answer
+segmentsAnswer p sheetLength lent =
+    elim (p .ending) [
+      | Passed ↦ cond (leb sheetLength lent) (Accepted (length (p .segments)) (dwellsIn (p .segments)) (targetsIn (p .segments)) sheetLength) (Refused 16 0 0)
+      | Failed number field ↦ Refused number (length (p .segments) + 1) field
+    ]
+
+-- "An answer has number, segment (from 1; 0 for call, header and end), field."
+unfoldable pub readingAnswer : ℕ → List ℕ → ℕ → Answer
+readingAnswer edition l lent =
+    elim (firstRow (headerRows edition l)) [
+      | Passed ↦ segmentsAnswer (parsed edition l) (length (sheet edition l)) lent
+      | Failed number field ↦ Refused number 0 field
+    ]
+
+-- the answer, and what the lent sheet then holds
+unfoldable pub read : ℕ → List ℕ → List ℕ → Outcome
+read edition l lent =
+    let a = readingAnswer edition l (length lent) in
+    record { answer = a; left = leftBy a (sheet edition l) lent }

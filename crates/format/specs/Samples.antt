@@ -1,0 +1,73 @@
+-- Packets for the trials, built from what tells them apart.
+-- Assumes nothing.
+use Prim.Native.Nat.{ℕ, _+_}
+use mathlib.Core.List.{List, [], _∷_, _++_}
+use lib.ListN.{length, replicate}
+use Rattle.octets.specs.Octets.{bytes}
+use Rattle.format.specs.Packet.{segmentBytes}
+
+-- so many bytes 0, and so many spaces
+abbrev pub zeros : ℕ → List ℕ
+zeros n = replicate n 0
+
+abbrev pub spaces : ℕ → List ℕ
+spaces n = replicate n 0x20
+
+-- a packet of the version 1 or 3, given as its character: text spaces, P2 right, all else in the header zero
+unfoldable pub packet : ℕ → List ℕ → List ℕ
+packet character segments =
+    (character ∷ 0x30 ∷ [])
+    ++ bytes 4 (32 + length segments)
+    ++ spaces 2
+    ++ zeros 1
+    ++ spaces 2
+    ++ zeros 3
+    ++ spaces 10
+    ++ zeros 8
+    ++ segments
+
+abbrev pub version1 : List ℕ → List ℕ
+version1 segments = packet 0x31 segments
+
+abbrev pub version3 : List ℕ → List ℕ
+version3 segments = packet 0x33 segments
+
+-- a segment with its size
+abbrev pub segment : ℕ → List ℕ → List ℕ
+segment type body = segmentBytes (record { type = type; body = body })
+
+-- a dwell with the mask, and what follows it
+abbrev pub dwell : ℕ → List ℕ → List ℕ
+dwell mask fields = segment 2 (bytes 8 mask ++ fields)
+
+-- D2 to D9 with D5, and D24 to D27 with D24 and D27, all else zero
+abbrev pub d2to9 : ℕ → List ℕ
+d2to9 d5 = zeros 5 ++ bytes 2 d5 ++ zeros 16
+
+abbrev pub d24to27 : ℕ → ℕ → List ℕ
+d24to27 d24 d27 = bytes 4 d24 ++ zeros 6 ++ bytes 2 d27
+
+-- a dwell without targets, of the required fields and, after them, so many zeros
+abbrev pub empty : ℕ → ℕ → List ℕ
+empty mask more = dwell mask (d2to9 0 ++ d24to27 0 0x1234 ++ zeros more)
+
+-- the 92-byte packet of document 01: "one dwell with mask FF C0 03 C0 60 00 00 00, D24 and D25 0, D10 and D11 65536, one target −128, −64"
+unfoldable pub printed : List ℕ
+printed =
+    version3 (dwell 0xFFC0_03C0_6000_0000
+    (d2to9 1 ++ bytes 4 65536 ++ bytes 4 65536 ++ d24to27 0 0 ++ (0xFF ∷ 0x80 ∷ 0xFF ∷ 0xC0 ∷ [])))
+
+-- "D24 0x7FFFFFFF, D10 1", and a target with this D32.4
+unfoldable pub northmost : ℕ → List ℕ
+northmost delta = version3 (dwell 0xFFC0_03C0_6000_0000 (d2to9 1 ++ bytes 4 1 ++ bytes 4 0 ++ d24to27 0x7FFFFFFF 0 ++ bytes 2 delta ++ zeros 2))
+
+-- a job definition with this J14, and J26 0x56
+abbrev pub job : ℕ → List ℕ
+job j14 = segment 5 (zeros 5 ++ spaces 6 ++ zeros 34 ++ bytes 1 j14 ++ zeros 19 ++ bytes 1 0x56 ++ zeros 2)
+
+-- a mission, and a free text of so many spaces in F3
+abbrev pub mission : ℕ → ℕ → List ℕ
+mission m6 m7 = segment 1 (spaces 24 ++ zeros 1 ++ spaces 10 ++ zeros 2 ++ m6 ∷ m7 ∷ [])
+
+abbrev pub freeText : ℕ → List ℕ
+freeText n = segment 6 (spaces 20 ++ spaces n)

@@ -1,0 +1,9 @@
+pub mod Bit
+pub mod Lowest
+pub mod Sets
+pub mod Words
+pub mod Sentence
+pub mod New
+pub mod Sum
+pub mod FullWidth
+pub mod Trials

@@ -1,0 +1,208 @@
+// The mask of a dwell: fields at fault, and the length of what it announces. Presence, groups and reserved bits are
+// decided by shifts and masks over a u64, and the field at fault by leading zeros.
+ghost use mathlib.Core.Path.{_≡_};
+ghost use mathlib.Core.Bool.{not, _&&_};
+ghost use Prim.Native.Nat.{ℕ, _+_, _≤_, _<_};
+ghost use lib.ListN.{length};
+ghost use lib.Bits.{bitAnd};
+ghost use lib.Dec.{eqb};
+ghost use Rattle.mask.specs.Fields.{announced, announcedLength, dwellWidths, targetWidths, dwellSize};
+ghost use Rattle.mask.specs.Mask.{isFault, isDoubled, lowestFault, newInMask, isPlaced};
+
+// D2 to D9 and D24 to D27.
+const REQUIRED: u64 = 0xFF00_03C0_0000_0000;
+
+// Bits 15 to 0.
+const RESERVED: u64 = 0x0000_0000_0000_FFFF;
+
+const D32_18: u64 = 0x0000_0000_0001_0000;
+
+const D12_TO_14: u64 = 0x0038_0000_0000_0000;
+
+const D15_TO_17: u64 = 0x0007_0000_0000_0000;
+
+const D18_TO_20: u64 = 0x0000_E000_0000_0000;
+
+const D21_TO_23: u64 = 0x0000_1C00_0000_0000;
+
+// D10, D11, D32.4 and D32.5.
+const DELTAS: u64 = 0x00C0_0000_6000_0000;
+
+const D32_2_AND_3: u64 = 0x0000_0001_8000_0000;
+
+const D32_4_AND_5: u64 = 0x0000_0000_6000_0000;
+
+const D32_16_AND_17: u64 = 0x0000_0000_0006_0000;
+
+const D28_TO_30: u64 = 0x0000_0038_0000_0000;
+
+// The fields of the set that the mask leaves out.
+fn missing(mask: u64, set: u64) -> u64
+    ensures { λ r. ⌜ ((n : ℕ) → announced r n ≡ (announced set n && not (announced mask n))) ⌝ }
+{
+    (mask & set) ^ set
+}
+
+// The fields of the set that the mask has. The constant is a parameter here: `bitAnd` unfolds where its first operand is a numeral.
+fn common(mask: u64, set: u64) -> u64
+    ensures { λ r. ⌜ ((n : ℕ) → announced r n ≡ (announced set n && announced mask n)) ⌝ }
+{
+    set & mask
+}
+
+// The fields of the set that the mask leaves out, where the mask has another field of the set.
+fn gaps(mask: u64, set: u64) -> u64
+    ensures { λ r. ⌜ ((n : ℕ) → announced r n ≡ (announced set n && not (announced mask n) && not (eqb (bitAnd mask set) 0))) ⌝ }
+{
+    if mask & set == 0 {
+        0
+    } else {
+        missing(mask, set)
+    }
+}
+
+// Whether the mask announces the field n.
+pub fn has(mask: u64, n: usize) -> bool
+    requires { ⌜ (2 ≤ n) × (n ≤ 65) ⌝ }
+    ensures { λ r. ⌜ r ≡ announced mask n ⌝ }
+{
+    (mask >> (65 - n)) & 1 == 1
+}
+
+// D32.4 and D32.5, where they are set beside D32.2 and D32.3.
+fn doubled(mask: u64) -> u64
+    ensures { λ r. ⌜ ((n : ℕ) → 2 ≤ n → n < 66 → announced r n ≡ isDoubled mask n) ⌝ }
+{
+    if has(mask, 33) {
+        if has(mask, 34) {
+            return common(mask, D32_4_AND_5);
+        }
+    }
+    0
+}
+
+// What holds in version 1 alone.
+fn in_version1(version: u8, word: u64) -> u64
+    ensures { λ r. ⌜ ((n : ℕ) → announced r n ≡ (eqb version 1 && announced word n)) ⌝ }
+{
+    if version == 1 { word } else { 0 }
+}
+
+// The fields at fault, each at its bit.
+fn faults(mask: u64, version: u8) -> u64
+    ensures { λ r. ⌜ ((n : ℕ) → 2 ≤ n → n < 66 → announced r n ≡ isFault version mask n) ⌝ }
+{
+    let a = missing(mask, REQUIRED)
+        | common(mask, RESERVED)
+        | in_version1(version, common(mask, D32_18));
+    let b = a
+        | gaps(mask, D12_TO_14)
+        | gaps(mask, D15_TO_17)
+        | gaps(mask, D18_TO_20)
+        | gaps(mask, D21_TO_23);
+    let c = b | gaps(mask, DELTAS) | gaps(mask, D32_2_AND_3) | gaps(mask, D32_16_AND_17);
+    c | in_version1(version, gaps(mask, D28_TO_30)) | doubled(mask)
+}
+
+// The lowest field at fault, and 0 where none is.
+pub fn lowest_fault(mask: u64, version: u8) -> u32
+    ensures { λ r. ⌜ r ≡ lowestFault version mask ⌝ }
+{
+    let w = faults(mask, version);
+    if w == 0 { 0 } else { 2 + u64::leading_zeros(w) }
+}
+
+// The field of what the mask has that is new in Edition 3, and 0 where it has nothing new.
+pub fn new_in_mask(mask: u64) -> u32
+    ensures { λ r. ⌜ r ≡ newInMask mask ⌝ }
+{
+    let w = gaps(mask, D28_TO_30);
+    if w != 0 {
+        return 2 + u64::leading_zeros(w);
+    }
+    if has(mask, 49) { 49 } else { 0 }
+}
+
+// Whether the mask announces positions of targets.
+pub fn is_placed(mask: u64) -> bool
+    ensures { λ r. ⌜ r ≡ isPlaced mask ⌝ }
+{
+    has(mask, 33) && has(mask, 34) || has(mask, 35) && has(mask, 36)
+}
+
+// The widths of D2 to D31, and of D32.1 to D32.18.
+const DWELL_WIDTHS: [u8; 30] = [
+    2,
+    2,
+    1,
+    2,
+    4,
+    4,
+    4,
+    4,
+    4,
+    4,
+    4,
+    4,
+    2,
+    2,
+    4,
+    1,
+    1,
+    2,
+    2,
+    2,
+    2,
+    2,
+    4,
+    4,
+    2,
+    2,
+    2,
+    2,
+    2,
+    1,
+];
+
+const TARGET_WIDTHS: [u8; 18] = [2, 4, 4, 2, 2, 2, 2, 2, 1, 1, 1, 2, 2, 1, 2, 1, 4, 1];
+
+// The bytes of the announced fields, of a table of widths that begins with the field first.
+fn announced_length(mask: u64, first: usize, widths: &[u8]) -> usize
+    requires { ⌜ (2 ≤ first) × (first + length (now widths) ≤ 66) ⌝ }
+    ensures { λ r. ⌜ r ≡ announcedLength mask first (now (widths .entry)) ⌝ }
+{
+    let mut sum: usize = 0;
+    for i in 0..widths.len() {
+        if has(mask, i + first) {
+            sum += wide(widths[i]);
+        }
+    }
+    sum
+}
+
+fn wide(x: u8) -> usize
+    ensures { λ r. ⌜ (r ≡ x) × (r < 256) ⌝ }
+{
+    x as usize
+}
+
+// The bytes of the announced fields of a dwell before its targets.
+pub fn dwell_length(mask: u64) -> usize
+    ensures { λ r. ⌜ r ≡ announcedLength mask 2 dwellWidths ⌝ }
+{
+    announced_length(mask, 2, &DWELL_WIDTHS)
+}
+
+// The bytes of the announced fields of one target.
+pub fn target_length(mask: u64) -> usize
+    ensures { λ r. ⌜ r ≡ announcedLength mask 32 targetWidths ⌝ }
+{
+    announced_length(mask, 32, &TARGET_WIDTHS)
+}
+
+// The size S2 of a dwell segment with so many targets.
+pub fn dwell_size(mask: u64, targets: u16) -> usize
+    ensures { λ r. ⌜ r ≡ dwellSize mask targets ⌝ }
+{
+    13 + dwell_length(mask) + (targets as usize) * target_length(mask)
+}

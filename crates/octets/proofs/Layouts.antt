@@ -1,0 +1,52 @@
+-- The laws of `pad`, `over` and of a table's fields that every layout needs: above all, what keeps the length.
+-- Assumes nothing.
+use mathlib.Core.Path.{_≡_, refl, ap, _∙_}
+use mathlib.Core.List.{List, [], _∷_, _++_}
+use Prim.Native.Nat.{ℕ, zero, suc, _+_, _≤_}
+use native.Mathlib.Nat.{le-refl, not-suc-le-zero}
+use native.Mathlib.Omega.{arith}
+use lib.ListN.{length, take, drop, length-append, length-drop}
+use lib.Seq.{take-length, length-take-le}
+use Rattle.octets.specs.Layout.{pad, over, width, offset, field, replaced, zeroed, copied}
+
+-- a padded field has its width
+pub length-pad : (w : ℕ) (b : List ℕ) → length (pad w b) ≡ w
+unfolding pad
+length-pad zero b = refl
+length-pad (suc w) [] = ap suc (length-pad w [])
+length-pad (suc w) (x ∷ b) = ap suc (length-pad w b)
+
+-- where there are bytes enough, padding only cuts
+pub pad-take : (w : ℕ) (b : List ℕ) → w ≤ length b → pad w b ≡ take w b
+unfolding pad
+pad-take zero b h = refl
+pad-take (suc w) [] h = absurd (not-suc-le-zero h)
+pad-take (suc w) (x ∷ b) h = ap (λ (r : List ℕ). x ∷ r) (pad-take w b (omega arith))
+
+-- bytes of the width itself stay as they are
+pub pad-same : (b : List ℕ) → pad (length b) b ≡ b
+pad-same b = pad-take (length b) b (le-refl (length b)) ∙ take-length b
+
+-- bytes laid over lent memory leave its length
+pub length-over : (e o : List ℕ) → length e ≤ length o → length (over e o) ≡ length o
+unfolding over
+length-over e o h = simp (length-append, length-drop) (omega arith)
+
+module _ (first : ℕ) (ws : List ℕ) (n : ℕ) where
+  -- a field that lies within b has its width
+  pub length-field : (b : List ℕ) → offset first ws n + width first ws n ≤ length b → length (field first ws n b) ≡ width first ws n
+  unfolding field
+  length-field b h = length-take-le (width first ws n) (drop (offset first ws n) b) (rw length-drop (omega arith))
+
+  -- bytes as wide as the field, put into its place, keep the length; so do zeros, and what another has there
+  pub length-replaced : (v b : List ℕ) → length v ≡ width first ws n → offset first ws n + width first ws n ≤ length b → length (replaced first ws n v b) ≡ length b
+  unfolding replaced
+  length-replaced v b e h =
+      let t : length (take (offset first ws n) b) ≡ offset first ws n = length-take-le (offset first ws n) b (omega arith) in
+      simp (length-append, length-drop) (omega arith)
+
+  pub length-zeroed : (b : List ℕ) → offset first ws n + width first ws n ≤ length b → length (zeroed first ws n b) ≡ length b
+  length-zeroed b h = length-replaced (pad (width first ws n) []) b (length-pad (width first ws n) []) h
+
+  pub length-copied : (a b : List ℕ) → offset first ws n + width first ws n ≤ length a → offset first ws n + width first ws n ≤ length b → length (copied first ws n a b) ≡ length b
+  length-copied a b ha hb = length-replaced (field first ws n a) b (length-field a ha) hb

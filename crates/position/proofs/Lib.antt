@@ -1,0 +1,5 @@
+pub mod Size
+pub mod Sums
+pub mod Range
+pub mod Rounding
+pub mod Trials
