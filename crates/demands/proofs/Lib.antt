@@ -1,3 +1,14 @@
 pub mod Trials
 pub mod Walk
 pub mod Answered
+pub mod Regroup
+pub mod Complete
+pub mod Counts
+pub mod AreBytes
+pub mod Written
+pub mod OlderRows
+pub mod OlderWalk
+pub mod Withheld
+pub mod Alike
+pub mod OlderRecords
+pub mod Editions

@@ -1,6 +1,6 @@
 -- The three demands, as statements about the definitions that the public functions' contracts cite: `read edition packet lent` and
 -- `write sheet lent` are the answer and what the lent memory holds afterwards (crate format, specs/Reader.antt and specs/Writer.antt).
--- The quoted words are the demands'. Their proofs come with the reader and the writer.
+-- The quoted words are the demands'.
 -- Assumes nothing.
 use Prim.Native.Nat.{ℕ, _≤_}
 use mathlib.Core.Path.{_≡_}
@@ -22,10 +22,10 @@ use Rattle.demands.specs.First.{FirstRow, NoRow}
 use Rattle.demands.specs.Filled.{withheldSheet, filledIn}
 use Rattle.demands.specs.Counts.{count, isKind, isLeader}
 
-abbrev accepted : ℕ → ℕ → ℕ → ℕ → List ℕ → Outcome
+abbrev pub accepted : ℕ → ℕ → ℕ → ℕ → List ℕ → Outcome
 accepted segments dwells targets n left = record { answer = Accepted segments dwells targets n; left = left }
 
-abbrev refused : ℕ → ℕ → ℕ → List ℕ → Outcome
+abbrev pub refused : ℕ → ℕ → ℕ → List ℕ → Outcome
 refused number segment field left = record { answer = Refused number segment field; left = left }
 
 -- ---- Demand 1. A packet "is either set out on a sheet, when no row of document 01 applies, or turned down with the number, segment
@@ -58,7 +58,7 @@ pub record Counted (x : List ℕ) (segments dwells targets n : ℕ) : Type 0 whe
   pub length-is : n ≡ length x
 
 pub record Demand2 : Type 0 where
-  pub counts : (edition : ℕ) (l lent : List ℕ) (s d t n : ℕ) → Bytes l → read edition l lent .answer ≡ Accepted s d t n
+  pub counts : (edition : ℕ) (l lent : List ℕ) (s d t n : ℕ) → read edition l lent .answer ≡ Accepted s d t n
       → Counted (sheet edition l) s d t n
   pub sheets-are-written : (l lent buffer : List ℕ) (s d t n : ℕ) → Bytes l → read 3 l lent .answer ≡ Accepted s d t n
       → length l ≤ length buffer
@@ -93,6 +93,6 @@ abbrev pub OlderReading : (l lent1 lent3 : List ℕ) (s d t n : ℕ) → New →
 OlderReading l lent1 lent3 s d t n nothing = ReadAlike l lent1 lent3 s d t n
 OlderReading l lent1 lent3 s d t n (found segment field) = read 1 l lent1 ≡ refused 15 segment field lent1
 
-pub Demand3 : Type 0
+abbrev pub Demand3 : Type 0
 Demand3 = (l lent1 lent3 : List ℕ) (s d t n : ℕ) → BothRead l lent1 lent3 s d t n
     → OlderReading l lent1 lent3 s d t n (firstNew 1 (parsed 3 l .segments))

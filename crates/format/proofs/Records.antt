@@ -17,6 +17,7 @@ use Rattle.format.specs.Packet.{Segment}
 use Rattle.format.specs.Sheet.{Record, bodyLength, recordOf, headerRecord, dwellRecord, targetRecord, targetRecords, pieceRecord, pieceRecords, missionRecords, dwellRecords, textRecords, opaqueRecords, jobRecords, testRecords, locationRecords, segmentRecords, packetRecords, recordBytes}
 use Rattle.format.specs.Reader.{parsed, readingOf, sheet}
 use Rattle.format.specs.Writer.{Listed, list, listed}
+use Rattle.format.proofs.Types.{by-number}
 
 -- a record of a kind, with the body's length that the kind fixes
 pub record Formed (r : Record) : Type 0 where
@@ -57,17 +58,11 @@ pub by-type : (P : List Record → Type 0) (r : Reading) (s : Segment)
     → P (opaqueRecords (s .type) (s .body))
     → P (segmentRecords r s)
 unfolding segmentRecords
-by-type P r s m d j t e l o = go (eqb (s .type) 1) (eqb (s .type) 2) (eqb (s .type) 5) (eqb (s .type) 6) (eqb (s .type) 10) (eqb (s .type) 13)
-  where
-    go : (a b c d′ e′ f : Bool)
-        → P (cond a (missionRecords (s .body)) (cond b (dwellRecords r (s .body)) (cond c (jobRecords r (s .body)) (cond d′ (textRecords (s .body)) (cond e′ (testRecords (s .body)) (cond f (locationRecords (s .body)) (opaqueRecords (s .type) (s .body))))))))
-    go true b c d′ e′ f = m
-    go false true c d′ e′ f = d
-    go false false true d′ e′ f = j
-    go false false false true e′ f = t
-    go false false false false true f = e
-    go false false false false false true = l
-    go false false false false false false = o
+by-type P r s m d j t e l o =
+    by-number (λ (n : ℕ). P (opaqueRecords n (s .body)) → P (segmentRecords r (record { type = n; body = s .body })))
+    (λ _. m) (λ _. d) (λ _. j) (λ _. t) (λ _. e) (λ _. l)
+    (λ n h1 h2 h5 h6 h10 h13 o. rw (h1, h2, h5, h6, h10, h13) o)
+    (s .type) o
 
 pub segment-formed : (r : Reading) (s : Segment) → AllFormed (segmentRecords r s)
 unfolding dwellRecords dwellRecord jobRecords textRecords opaqueRecords bodyLength

@@ -42,7 +42,8 @@ first-append (r ∷ rs) qs = go (r .applies) (first-append rs qs)
     go true h = refl
     go false h = h
 
-neither : (a b : Bool) → (a || b) ≡ false → (a ≡ false) × (b ≡ false)
+-- where "the one or the other" is false, both are
+pub neither : (a b : Bool) → (a || b) ≡ false → (a ≡ false) × (b ≡ false)
 neither true b e = absurd (true≢false e)
 neither false b e = (refl, e)
 

@@ -1,6 +1,6 @@
 -- The laws of `be` and `bytes`, each once, for every width.
 -- Assumes nothing.
-use mathlib.Core.Path.{_≡_, refl, sym, ap, _∙_}
+use mathlib.Core.Path.{_≡_, refl, sym, ap, ap₂, _∙_}
 use mathlib.Core.List.{List, [], _∷_, _++_, append-nil, append-assoc}
 use Prim.Native.Nat.{ℕ, zero, suc, _+_, _*_, _/_, _%_, _^_, _≤_, _<_}
 use native.Mathlib.Nat.{add-zero, add-suc, suc-add, pow-suc, pow-succ', one-le-pow, div-one, div-div-eq-div-mul}
@@ -8,8 +8,8 @@ use native.Mathlib.Numerals.{add-one}
 use native.Mathlib.Omega.{arith}
 use lib.Dec.{lit<}
 use lib.Arith.{mod-mul}
-use lib.ListN.{length, getD, take, drop, set, length-append}
-use lib.Seq.{sets, sets-eq, getD-drop, drop-drop, getD-at, take-suc}
+use lib.ListN.{length, getD, take, drop, set, length-append, List·getD-append}
+use lib.Seq.{sets, sets-eq, getD-drop, getD-take, drop-drop, getD-at, take-suc, length-take-le}
 use Rattle.octets.specs.Octets.{be, bytes}
 
 -- a number of j + k bytes is that of the first j, and that of the k after them
@@ -87,3 +87,17 @@ stores-are vs l i h = sets-eq vs l i h
 pub then : (us vs l : List ℕ) (at n : ℕ) {a b : List ℕ} → a ≡ sets l at us → length us ≡ n → b ≡ sets a (at + n) vs → b ≡ sets l at (us ++ vs)
 then us vs l at n ha hn hb =
     hb ∙ ap (λ (s : List ℕ). sets s (at + n) vs) ha ∙ ap (λ (m : ℕ). sets (sets l at us) (at + m) vs) (sym hn) ∙ sets-sets us vs l at
+
+-- a number goes by its own bytes alone
+same-be : (k : ℕ) (s t : List ℕ) → ((i : ℕ) → i < k → getD s i 0 ≡ getD t i 0) → be k s ≡ be k t
+unfolding be
+same-be zero s t h = refl
+same-be (suc k) s t h = ap₂ (λ (x y : ℕ). x * 256 + y) (same-be k s t (λ i l. h i (omega arith))) (h k (omega arith))
+
+-- so by none behind them
+pub be-front : (k : ℕ) (b c : List ℕ) → k ≤ length b → be k (b ++ c) ≡ be k b
+be-front k b c h = same-be k (b ++ c) b (λ i l. List·getD-append b c 0 i (omega arith))
+
+-- and it can be read where its bytes were laid
+pub be-taken : (k : ℕ) (b c : List ℕ) → k ≤ length b → be k (take k b ++ c) ≡ be k b
+be-taken k b c h = be-front k (take k b) c (rw (length-take-le k b h) (omega arith)) ∙ same-be k (take k b) b (λ i l. getD-take k b i 0 l)

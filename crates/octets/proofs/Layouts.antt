@@ -1,12 +1,12 @@
 -- The laws of `pad`, `over` and of a table's fields that every layout needs: above all, what keeps the length.
 -- Assumes nothing.
-use mathlib.Core.Path.{_≡_, refl, ap, _∙_}
-use mathlib.Core.List.{List, [], _∷_, _++_}
-use Prim.Native.Nat.{ℕ, zero, suc, _+_, _≤_}
+use mathlib.Core.Path.{_≡_, refl, sym, ap, _∙_}
+use mathlib.Core.List.{List, [], _∷_, _++_, append-nil}
+use Prim.Native.Nat.{ℕ, zero, suc, _+_, _-_, _≤_}
 use native.Mathlib.Nat.{le-refl, not-suc-le-zero}
 use native.Mathlib.Omega.{arith}
 use lib.ListN.{length, take, drop, length-append, length-drop}
-use lib.Seq.{take-length, length-take-le}
+use lib.Seq.{take-length, length-take-le, take-at}
 use Rattle.octets.specs.Layout.{pad, over, width, offset, field, replaced, zeroed, copied}
 
 -- a padded field has its width
@@ -26,6 +26,20 @@ pad-take (suc w) (x ∷ b) h = ap (λ (r : List ℕ). x ∷ r) (pad-take w b (om
 -- bytes of the width itself stay as they are
 pub pad-same : (b : List ℕ) → pad (length b) b ≡ b
 pad-same b = pad-take (length b) b (le-refl (length b)) ∙ take-length b
+
+-- where bytes are filled up, they stay in front
+pub pad-append : (w v : ℕ) (b c : List ℕ) → w ≡ length b + v → pad w (b ++ c) ≡ b ++ pad v c
+unfolding pad
+pad-append w v [] c e = let f : w ≡ v = omega arith in rw f
+pad-append zero v (x ∷ b) c e = absurd (omega arith)
+pad-append (suc w) v (x ∷ b) c e = ap (λ (y : List ℕ). x ∷ y) (pad-append w v b c (omega arith))
+
+-- so they are cut out again
+pub take-pad : (w : ℕ) (b : List ℕ) → length b ≤ w → take (length b) (pad w b) ≡ b
+take-pad w b h =
+    ap (λ (y : List ℕ). take (length b) (pad w y)) (sym (append-nil b))
+    ∙ ap (take (length b)) (pad-append w (w - length b) b [] (omega arith))
+    ∙ take-at b (pad (w - length b) []) (length b) refl
 
 -- bytes laid over lent memory leave its length
 pub length-over : (e o : List ℕ) → length e ≤ length o → length (over e o) ≡ length o

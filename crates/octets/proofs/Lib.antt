@@ -1,3 +1,4 @@
 pub mod Laws
 pub mod Signed
 pub mod Layouts
+pub mod ByteLists

@@ -1,0 +1,98 @@
+// Bytes copied from p on in s to q on in o, all loaded before the first is stored, and zeros stored. A number that is read and
+// written is copied in one move, which a loop over its bytes is not.
+ghost use mathlib.Core.Path.{_≡_};
+ghost use mathlib.Core.List.{[]};
+ghost use Prim.Native.Nat.{_+_, _≤_};
+ghost use lib.ListN.{length, take, drop};
+ghost use lib.Seq.{sets};
+ghost use Rattle.octets.specs.Layout.{pad};
+
+pub fn copy1(s: &[u8], p: usize, o: &mut [u8], q: usize)
+    requires { ⌜ (p + 1 ≤ length (now s)) × (q + 1 ≤ length (now o)) ⌝ }
+    ensures { λ _. ⌜ now (o .exit) ≡ sets (now (o .entry)) q (take 1 (drop p (now (s .entry)))) ⌝ }
+{
+    o[q] = s[p];
+}
+
+pub fn copy2(s: &[u8], p: usize, o: &mut [u8], q: usize)
+    requires { ⌜ (p + 2 ≤ length (now s)) × (q + 2 ≤ length (now o)) ⌝ }
+    ensures { λ _. ⌜ now (o .exit) ≡ sets (now (o .entry)) q (take 2 (drop p (now (s .entry)))) ⌝ }
+{
+    octets::put_u16(o, q, octets::get_u16(s, p));
+}
+
+pub fn copy4(s: &[u8], p: usize, o: &mut [u8], q: usize)
+    requires { ⌜ (p + 4 ≤ length (now s)) × (q + 4 ≤ length (now o)) ⌝ }
+    ensures { λ _. ⌜ now (o .exit) ≡ sets (now (o .entry)) q (take 4 (drop p (now (s .entry)))) ⌝ }
+{
+    octets::put_u32(o, q, octets::get_u32(s, p));
+}
+
+pub fn copy8(s: &[u8], p: usize, o: &mut [u8], q: usize)
+    requires { ⌜ (p + 8 ≤ length (now s)) × (q + 8 ≤ length (now o)) ⌝ }
+    ensures { λ _. ⌜ now (o .exit) ≡ sets (now (o .entry)) q (take 8 (drop p (now (s .entry)))) ⌝ }
+{
+    octets::put_u64(o, q, octets::get_u64(s, p));
+}
+
+pub fn copy16(s: &[u8], p: usize, o: &mut [u8], q: usize)
+    requires { ⌜ (p + 16 ≤ length (now s)) × (q + 16 ≤ length (now o)) ⌝ }
+    ensures { λ _. ⌜ now (o .exit) ≡ sets (now (o .entry)) q (take 16 (drop p (now (s .entry)))) ⌝ }
+{
+    copy8(s, p, o, q);
+    copy8(s, p + 8, o, q + 8);
+}
+
+pub fn copy12(s: &[u8], p: usize, o: &mut [u8], q: usize)
+    requires { ⌜ (p + 12 ≤ length (now s)) × (q + 12 ≤ length (now o)) ⌝ }
+    ensures { λ _. ⌜ now (o .exit) ≡ sets (now (o .entry)) q (take 12 (drop p (now (s .entry)))) ⌝ }
+{
+    copy8(s, p, o, q);
+    copy4(s, p + 8, o, q + 8);
+}
+
+pub fn copy23(s: &[u8], p: usize, o: &mut [u8], q: usize)
+    requires { ⌜ (p + 23 ≤ length (now s)) × (q + 23 ≤ length (now o)) ⌝ }
+    ensures { λ _. ⌜ now (o .exit) ≡ sets (now (o .entry)) q (take 23 (drop p (now (s .entry)))) ⌝ }
+{
+    copy16(s, p, o, q);
+    copy4(s, p + 16, o, q + 16);
+    copy2(s, p + 20, o, q + 20);
+    copy1(s, p + 22, o, q + 22);
+}
+
+pub fn clear1(o: &mut [u8], q: usize)
+    requires { ⌜ q + 1 ≤ length (now o) ⌝ }
+    ensures { λ _. ⌜ now (o .exit) ≡ sets (now (o .entry)) q (pad 1 []) ⌝ }
+{
+    o[q] = 0;
+}
+
+pub fn clear2(o: &mut [u8], q: usize)
+    requires { ⌜ q + 2 ≤ length (now o) ⌝ }
+    ensures { λ _. ⌜ now (o .exit) ≡ sets (now (o .entry)) q (pad 2 []) ⌝ }
+{
+    octets::put_u16(o, q, 0);
+}
+
+pub fn clear4(o: &mut [u8], q: usize)
+    requires { ⌜ q + 4 ≤ length (now o) ⌝ }
+    ensures { λ _. ⌜ now (o .exit) ≡ sets (now (o .entry)) q (pad 4 []) ⌝ }
+{
+    octets::put_u32(o, q, 0);
+}
+
+pub fn clear8(o: &mut [u8], q: usize)
+    requires { ⌜ q + 8 ≤ length (now o) ⌝ }
+    ensures { λ _. ⌜ now (o .exit) ≡ sets (now (o .entry)) q (pad 8 []) ⌝ }
+{
+    octets::put_u64(o, q, 0);
+}
+
+pub fn clear16(o: &mut [u8], q: usize)
+    requires { ⌜ q + 16 ≤ length (now o) ⌝ }
+    ensures { λ _. ⌜ now (o .exit) ≡ sets (now (o .entry)) q (pad 16 []) ⌝ }
+{
+    clear8(o, q);
+    clear8(o, q + 8);
+}

@@ -1,0 +1,129 @@
+-- The counts of a reading are those of its sheet: its segments, dwells and targets are its records of the kinds for them.
+-- Assumes nothing.
+use Prim.Native.Nat.{ℕ, zero, suc, _+_, _*_}
+use native.Mathlib.Nat.{zero-add, add-zero, add-assoc, zero-mul}
+use native.Mathlib.Omega.{arith}
+use mathlib.Core.Path.{_≡_, refl, sym, ap, ap₂, _∙_}
+use mathlib.Core.Bool.{Bool, true, false, cond, not, _&&_, _||_}
+use mathlib.Core.List.{List, [], _∷_, _++_}
+use borrow.Author.Tests.{eqb-true}
+use lib.Dec.{eqb}
+use lib.ListN.{length, drop}
+use Rattle.format.specs.declared.Reading.{Reading}
+use Rattle.format.specs.Packet.{Segment}
+use Rattle.format.specs.Dwell.{targetCount}
+use Rattle.format.specs.Sheet.{Record, recordOf, headerRecord, dwellRecord, targetRecord, targetRecords, pieceRecord, pieceRecords, missionRecords, dwellRecords, textRecords, opaqueRecords, jobRecords, testRecords, locationRecords, segmentRecords, packetRecords}
+use Rattle.format.specs.Reader.{dwellsIn, targetsIn, readingOf, parsed, sheet}
+use Rattle.format.proofs.Records.{listed-sheet}
+use Rattle.demands.specs.Counts.{count, isKind, isLeader}
+use Rattle.demands.specs.Demands.{Counted}
+
+-- a count goes on over records after others
+count-append : (f : Record → Bool) (rs qs : List Record) → count f (rs ++ qs) ≡ count f rs + count f qs
+unfolding count
+count-append f [] qs = sym (zero-add (count f qs))
+count-append f (r ∷ rs) qs = ap (λ (n : ℕ). cond (f r) 1 0 + n) (count-append f rs qs) ∙ sym (add-assoc (cond (f r) 1 0) (count f rs) (count f qs))
+
+-- a count that goes by the kind of a record, leaves out pieces, and takes either all or none of the records that begin a segment
+-- other than a dwell (c)
+module _ (g : ℕ → Bool) (c : Bool) (piece : g 6 ≡ false)
+    (mission : g 2 ≡ c) (text : g 5 ≡ c) (other : g 7 ≡ c) (job : g 8 ≡ c) (test : g 9 ≡ c) (location : g 10 ≡ c) where
+  abbrev counts : List Record → ℕ
+  counts rs = count (λ (q : Record). g (q .kind)) rs
+
+  -- targets count alike
+  count-targets : (mask : ℕ) (dwell : List ℕ) (n : ℕ) (t : List ℕ) → counts (targetRecords mask dwell n t) ≡ n * cond (g 4) 1 0
+  unfolding count targetRecords targetRecord recordOf
+  count-targets mask dwell zero t = sym (zero-mul (cond (g 4) 1 0))
+  count-targets mask dwell (suc n) t =
+      let e : cond (g 4) 1 0 + n * cond (g 4) 1 0 ≡ suc n * cond (g 4) 1 0 = omega arith in
+      ap (λ (m : ℕ). cond (g 4) 1 0 + m) (count-targets mask dwell n _) ∙ e
+
+  -- pieces count nothing
+  count-pieces : (n : ℕ) (b : List ℕ) → counts (pieceRecords n b) ≡ 0
+  unfolding count pieceRecords pieceRecord recordOf
+  count-pieces zero b = refl
+  count-pieces (suc n) b = rw piece (zero-add _ ∙ count-pieces n (drop 32 b))
+
+  -- a record by itself
+  alone : (k : ℕ) (b : List ℕ) → g k ≡ c → counts (recordOf k b ∷ []) ≡ cond c 1 0
+  unfolding count recordOf
+  alone k b e = rw e (add-zero (cond c 1 0))
+
+  -- a record before pieces
+  with-pieces : (k : ℕ) (b : List ℕ) (n : ℕ) (p : List ℕ) → g k ≡ c → counts (recordOf k b ∷ pieceRecords n p) ≡ cond c 1 0
+  unfolding count recordOf
+  with-pieces k b n p e = rw (e, count-pieces n p) (add-zero (cond c 1 0))
+
+  -- a dwell and its targets
+  count-dwell : (r : Reading) (b : List ℕ) → counts (dwellRecords r b) ≡ cond (g 3) 1 0 + targetCount b * cond (g 4) 1 0
+  unfolding count dwellRecords dwellRecord recordOf
+  count-dwell r b = ap (λ (m : ℕ). cond (g 3) 1 0 + m) (count-targets _ _ _ _)
+
+  -- any segment
+  counts-segment : (r : Reading) (s : Segment) → counts (segmentRecords r s) ≡ cond (eqb (s .type) 2) (cond (g 3) 1 0 + targetCount (s .body) * cond (g 4) 1 0) (cond c 1 0)
+  unfolding segmentRecords jobRecords textRecords opaqueRecords
+  counts-segment r s =
+      go (eqb (s .type) 1) (eqb (s .type) 2) (eqb (s .type) 5) (eqb (s .type) 6) (eqb (s .type) 10) (eqb (s .type) 13) refl refl
+    where
+      go : (t1 t2 t5 t6 t10 t13 : Bool) → eqb (s .type) 1 ≡ t1 → eqb (s .type) 2 ≡ t2
+          → counts (cond t1 (missionRecords (s .body)) (cond t2 (dwellRecords r (s .body)) (cond t5 (jobRecords r (s .body)) (cond t6 (textRecords (s .body)) (cond t10 (testRecords (s .body)) (cond t13 (locationRecords (s .body)) (opaqueRecords (s .type) (s .body))))))))
+          ≡ cond t2 (cond (g 3) 1 0 + targetCount (s .body) * cond (g 4) 1 0) (cond c 1 0)
+      go true true t5 t6 t10 t13 x y = absurd (omega (arith, eqb-true (s .type) 1 x, eqb-true (s .type) 2 y))
+      go true false t5 t6 t10 t13 x y = alone 2 _ mission
+      go false true t5 t6 t10 t13 x y = count-dwell r (s .body)
+      go false false true t6 t10 t13 x y = alone 8 _ job
+      go false false false true t10 t13 x y = with-pieces 5 _ _ _ text
+      go false false false false true t13 x y = alone 9 _ test
+      go false false false false false true x y = alone 10 _ location
+      go false false false false false false x y = with-pieces 7 _ _ _ other
+
+module _ (r : Reading) where
+  -- each segment has one record that begins it
+  leaders-are : (ss : List Segment) → count isLeader (packetRecords r ss) ≡ length ss
+  unfolding count packetRecords
+  leaders-are [] = refl
+  leaders-are (s ∷ ss) =
+      let e : 1 + length ss ≡ suc (length ss) = omega arith in
+      count-append isLeader (segmentRecords r s) (packetRecords r ss)
+      ∙ ap₂ (λ (x y : ℕ). x + y) (counts-segment (λ k. not (eqb k 1) && not (eqb k 4 || eqb k 6)) true refl refl refl refl refl refl refl r s ∙ one (eqb (s .type) 2)) (leaders-are ss)
+      ∙ e
+    where
+      one : (b : Bool) → cond b (1 + targetCount (s .body) * 0) 1 ≡ 1
+      one true = omega arith
+      one false = refl
+
+  -- each dwell has one of its kind
+  dwells-are : (ss : List Segment) → count (isKind 3) (packetRecords r ss) ≡ dwellsIn ss
+  unfolding count packetRecords dwellsIn
+  dwells-are [] = refl
+  dwells-are (s ∷ ss) =
+      count-append (isKind 3) (segmentRecords r s) (packetRecords r ss)
+      ∙ ap₂ (λ (x y : ℕ). x + y) (counts-segment (λ k. eqb k 3) false refl refl refl refl refl refl refl r s ∙ one (eqb (s .type) 2)) (dwells-are ss)
+    where
+      one : (b : Bool) → cond b (1 + targetCount (s .body) * 0) 0 ≡ cond b 1 0
+      one true = omega arith
+      one false = refl
+
+  -- and so many targets as it says
+  targets-are : (ss : List Segment) → count (isKind 4) (packetRecords r ss) ≡ targetsIn ss
+  unfolding count packetRecords targetsIn
+  targets-are [] = refl
+  targets-are (s ∷ ss) =
+      count-append (isKind 4) (segmentRecords r s) (packetRecords r ss)
+      ∙ ap₂ (λ (x y : ℕ). x + y) (counts-segment (λ k. eqb k 4) false refl refl refl refl refl refl refl r s ∙ all (eqb (s .type) 2)) (targets-are ss)
+    where
+      all : (b : Bool) → cond b (0 + targetCount (s .body) * 1) 0 ≡ cond b (targetCount (s .body)) 0
+      all true = omega arith
+      all false = refl
+
+-- the counts of a reading's segments are those of the records of its sheet
+pub counts-are : (edition : ℕ) (l : List ℕ)
+    → Counted (sheet edition l) (length (parsed edition l .segments)) (dwellsIn (parsed edition l .segments)) (targetsIn (parsed edition l .segments)) (length (sheet edition l))
+unfolding count headerRecord recordOf
+counts-are edition l = record {
+  segments-are = rw (listed-sheet edition l) (sym (zero-add _ ∙ leaders-are (readingOf edition l) (parsed edition l .segments)));
+  dwells-are = rw (listed-sheet edition l) (sym (zero-add _ ∙ dwells-are (readingOf edition l) (parsed edition l .segments)));
+  targets-are = rw (listed-sheet edition l) (sym (zero-add _ ∙ targets-are (readingOf edition l) (parsed edition l .segments)));
+  length-is = refl;
+}

@@ -1,0 +1,171 @@
+-- The records of a segment where nothing is withheld, regrouped, are that segment again.
+-- Assumes nothing.
+use Prim.Native.Nat.{ℕ, zero, suc, _+_, _-_, _*_, _/_, _≤_, min}
+use native.Mathlib.Nat.{zero-mul}
+use native.Mathlib.Omega.{arith}
+use mathlib.Core.Path.{_≡_, refl, sym, ap, ap₂, _∙_}
+use mathlib.Core.Bool.{true, false}
+use mathlib.Core.List.{List, [], _∷_, _++_, append-assoc, append-nil}
+use lib.ListN.{length, take, drop, length-take, length-drop, take-append-drop}
+use lib.Seq.{length-take-le, take-at, drop-at, take-add, take-all}
+use Rattle.octets.specs.Octets.{be, bytes}
+use Rattle.octets.specs.Layout.{pad, total}
+use Rattle.octets.proofs.Laws.{be-taken}
+use Rattle.octets.proofs.Layouts.{pad-append, take-pad}
+use Rattle.mask.specs.Fields.{announcedLength, announcedFields, fullFields, dwellWidths, targetWidths, d32}
+use Rattle.mask.proofs.FullWidth.{length-full, announced-full}
+use Rattle.format.specs.declared.Reading.{Reading}
+use Rattle.format.specs.declared.Check.the-variants.{Passed}
+use Rattle.format.specs.Packet.{Segment}
+use Rattle.format.specs.Dwell.{maskOf, dwellFields, targetCount, targetsOf, targetLength, targetFields}
+use Rattle.format.specs.Edition.{isOlder}
+use Rattle.format.specs.Sheet.{Record, bodyLength, recordOf, targetRecord, targetRecords, pieceRecord, pieceRecords, pieceCount, piecesOf, dwellRecords, textRecords, opaqueRecords, jobRecords, segmentRecords, packetRecords}
+use Rattle.format.specs.Rows.{firstRow, dwellRows}
+use Rattle.format.specs.Writer.{isFollower, typeOf, given, maskAfter, regroup}
+use Rattle.format.proofs.Segments.{Sound, AllSound, by-rows}
+use Rattle.format.proofs.Bodies.{mission-length, job-length, kept-length, text-length, dwell-length, record-exact, dwell-exact, job-exact, text-exact, opaque-exact}
+
+-- records that begin with no follower and give these segments: their regrouping goes by no mask
+abbrev pub Settled : List Record → List Segment → Type 0
+Settled rs gs = (mask : ℕ) → regroup mask rs ≡ record { front = []; segments = gs }
+
+-- a record that begins a segment, before what the records after it give
+leads : (q : Record) (rs : List Record) (mask : ℕ) (s : Segment) (front : List ℕ) (gs : List Segment)
+    → isFollower q ≡ false → regroup (maskAfter q) rs ≡ record { front = front; segments = gs }
+    → typeOf q ≡ s .type → given mask q ++ front ≡ s .body
+    → regroup mask (q ∷ rs) ≡ record { front = []; segments = s ∷ gs }
+unfolding regroup
+leads q rs mask s front gs f e t b =
+    rw (f, e) (ap₂ (λ (x : ℕ) (y : List ℕ). record { front = []; segments = record { type = x; body = y } ∷ gs }) t b)
+
+-- a follower, before what the records after it give
+follows : (q : Record) (rs : List Record) (mask : ℕ) (own front : List ℕ) (gs : List Segment)
+    → isFollower q ≡ true → regroup mask rs ≡ record { front = front; segments = gs } → given mask q ≡ own
+    → regroup mask (q ∷ rs) ≡ record { front = own ++ front; segments = gs }
+unfolding regroup
+follows q rs mask own front gs f e g = rw (f, e, g)
+
+-- ---- dwells and targets
+
+-- a dwell's record gives the mask and the announced fields
+dwell-given : (b : List ℕ) → 8 + announcedLength (maskOf b) 2 dwellWidths ≤ length b
+    → take 8 (take 8 b ++ (dwellFields b ++ 1 ∷ [])) ++ announcedFields (be 8 (take 8 b ++ (dwellFields b ++ 1 ∷ []))) 2 dwellWidths (drop 8 (take 8 b ++ (dwellFields b ++ 1 ∷ [])))
+    ≡ take (8 + announcedLength (maskOf b) 2 dwellWidths) b
+unfolding maskOf dwellFields
+dwell-given b h =
+    let c = dwellFields b ++ 1 ∷ [] in
+    let size = announcedLength (maskOf b) 2 dwellWidths in
+    let n : length (take 8 b) ≡ 8 = length-take-le 8 b (omega arith) in
+    let f : announcedFields (maskOf b) 2 dwellWidths c ≡ take size (drop 8 b) = announced-full (maskOf b) 2 dwellWidths (drop 8 b) (1 ∷ []) (rw length-drop (omega arith)) in
+    ap₂ (λ (x y : List ℕ). x ++ y) (take-at (take 8 b) c 8 n)
+    (ap₂ (λ (m : ℕ) (y : List ℕ). announcedFields m 2 dwellWidths y) (be-taken 8 b c (omega arith)) (drop-at (take 8 b) c 8 n) ∙ f)
+    ∙ sym (take-add 8 size b)
+
+-- a target's record gives the bytes that it was made of
+target-given : (mask : ℕ) (dwell t : List ℕ) → targetLength mask ≤ length t → given mask (targetRecord mask dwell t) ≡ take (targetLength mask) t
+unfolding given targetRecord recordOf bodyLength targetFields total
+target-given mask dwell t h =
+    let n : 44 ≡ length (fullFields mask (d32 1) targetWidths t) + 8 = rw (length-full mask (d32 1) targetWidths t) in
+    rw (append-assoc, pad-append 44 8 (fullFields mask (d32 1) targetWidths t) _ n) (announced-full mask (d32 1) targetWidths t _ h)
+
+-- targets in a row give theirs, before what follows them
+targets-regrouped : (mask : ℕ) (dwell : List ℕ) (n : ℕ) (t : List ℕ) (rs : List Record) (gs : List Segment) → n * targetLength mask ≤ length t → Settled rs gs
+    → regroup mask (targetRecords mask dwell n t ++ rs) ≡ record { front = take (n * targetLength mask) t; segments = gs }
+unfolding targetRecords targetRecord recordOf
+targets-regrouped mask dwell zero t rs gs h s = rw zero-mul (s mask)
+targets-regrouped mask dwell (suc n) t rs gs h s =
+    let u = targetLength mask in
+    let e : suc n * u ≡ u + n * u = omega arith in
+    rw (e, take-add u (n * u) t)
+    (follows (targetRecord mask dwell t) _ mask _ _ gs refl (targets-regrouped mask dwell n (drop u t) rs gs (rw length-drop (omega arith)) s) (target-given mask dwell t (omega arith)))
+
+-- ---- pieces
+
+-- a piece's record gives the bytes that it carries
+piece-given : (mask : ℕ) (b : List ℕ) → given mask (pieceRecord b) ≡ take 32 b
+unfolding given pieceRecord recordOf bodyLength pad
+piece-given mask b =
+    let n : length (take 32 b) ≡ min 32 (length b) = length-take 32 b in
+    ap (λ (k : ℕ). take k (pad 32 (take 32 b))) (sym n) ∙ take-pad 32 (take 32 b) (omega arith)
+
+-- pieces in a row give theirs
+pieces-front : (mask n : ℕ) (b : List ℕ) (rs : List Record) (gs : List Segment) → Settled rs gs
+    → regroup mask (pieceRecords n b ++ rs) ≡ record { front = take (n * 32) b; segments = gs }
+unfolding pieceRecords pieceRecord recordOf
+pieces-front mask zero b rs gs s = s mask
+pieces-front mask (suc n) b rs gs s =
+    let e : suc n * 32 ≡ 32 + n * 32 = omega arith in
+    rw (e, take-add 32 (n * 32) b)
+    (follows (pieceRecord b) _ mask _ _ gs refl (pieces-front mask n (drop 32 b) rs gs s) (piece-given mask b))
+
+-- all pieces together give all that they carry
+pieces-regrouped : (mask : ℕ) (b : List ℕ) (rs : List Record) (gs : List Segment) → Settled rs gs
+    → regroup mask (piecesOf b ++ rs) ≡ record { front = b; segments = gs }
+unfolding pieceCount
+pieces-regrouped mask b rs gs s =
+    pieces-front mask ((length b + 31) / 32) b rs gs s
+    ∙ ap (λ (x : List ℕ). record { front = x; segments = gs }) (take-all ((length b + 31) / 32 * 32) b (omega arith))
+
+-- ---- the records of each type of segment, before others
+
+module _ (s : Segment) (rs : List Record) (gs : List Segment) (settled : Settled rs gs) where
+  -- a segment that is kept in one record, as its bytes
+  whole-regrouped : (q : Record) → isFollower q ≡ false → typeOf q ≡ s .type → ((mask : ℕ) → given mask q ≡ s .body) → Settled (q ∷ rs) (s ∷ gs)
+  whole-regrouped q f t g mask = leads q rs mask s [] gs f (settled (maskAfter q)) t (append-nil (given mask q) ∙ g mask)
+
+  -- a dwell with its targets
+  dwell-regrouped : (r : Reading) → isOlder r ≡ false → s .type ≡ 2 → firstRow (dwellRows r (s .body)) ≡ Passed → Settled (dwellRecords r (s .body) ++ rs) (s ∷ gs)
+  unfolding dwellRecords typeOf maskAfter targetsOf given maskOf
+  dwell-regrouped r o t e mask =
+      let b = s .body in
+      let from = 8 + announcedLength (maskOf b) 2 dwellWidths in
+      let size = targetCount b * targetLength (maskOf b) in
+      let n : length b ≡ from + size = dwell-length r b e in
+      let m : be 8 (take 8 b ++ (dwellFields b ++ 1 ∷ [])) ≡ maskOf b = be-taken 8 b (dwellFields b ++ 1 ∷ []) (omega arith) in
+      let all : take from b ++ take size (drop from b) ≡ b = sym (take-add from size b) ∙ take-all (from + size) b (omega arith) in
+      rw (dwell-exact r b o (omega arith))
+      (leads _ _ mask s (take size (drop from b)) gs refl (rw m (targets-regrouped (maskOf b) (dwellFields b) (targetCount b) (drop from b) rs gs (rw length-drop (omega arith)) settled)) (sym t)
+      (ap (λ (x : List ℕ). x ++ take size (drop from b)) (dwell-given b (omega arith)) ∙ all))
+
+  -- a text with its pieces
+  text-regrouped : s .type ≡ 6 → 20 ≤ length (s .body) → Settled (textRecords (s .body) ++ rs) (s ∷ gs)
+  unfolding textRecords given typeOf
+  text-regrouped t h mask =
+      let b = s .body in
+      let n : length (take 20 b) ≡ 20 = length-take-le 20 b h in
+      rw (text-exact b (length b - 20) h)
+      (leads _ _ mask s (drop 20 b) gs refl (pieces-regrouped _ (drop 20 b) rs gs settled) (sym t)
+      (ap (λ (x : List ℕ). x ++ drop 20 b) (take-at (take 20 b) (bytes 4 (length b - 20)) 20 n) ∙ take-append-drop 20 b))
+
+  -- an opaque segment with its pieces
+  opaque-regrouped : Settled (opaqueRecords (s .type) (s .body) ++ rs) (s ∷ gs)
+  unfolding opaqueRecords given typeOf
+  opaque-regrouped mask =
+      rw (opaque-exact (s .type) (length (s .body))) (leads _ _ mask s (s .body) gs refl (pieces-regrouped _ (s .body) rs gs settled) refl refl)
+
+  -- any segment
+  pub segment-regrouped : (r : Reading) → isOlder r ≡ false → Sound r s → Settled (segmentRecords r s ++ rs) (s ∷ gs)
+  unfolding jobRecords bodyLength given typeOf
+  segment-regrouped r o w =
+      by-rows (λ (qs : List Record). Settled (qs ++ rs) (s ∷ gs)) r s (w .rows)
+      (λ t e. kept 2 (mission-length (s .body) e) refl (sym t) (λ mask. refl))
+      (λ t e. dwell-regrouped r o t e)
+      (λ t e. job t (job-length r (s .body) e))
+      (λ t e. text-regrouped t (text-length (s .body) e))
+      (λ t e. kept 9 (kept-length 14 (s .body) e) refl (sym t) (λ mask. refl))
+      (λ t e. kept 10 (kept-length 23 (s .body) e) refl (sym t) (λ mask. refl))
+      opaque-regrouped
+    where
+      kept : (kind : ℕ) → length (s .body) ≡ bodyLength kind → isFollower (record { kind = kind; body = s .body }) ≡ false
+          → typeOf (record { kind = kind; body = s .body }) ≡ s .type → ((mask : ℕ) → given mask (record { kind = kind; body = s .body }) ≡ s .body)
+          → Settled (recordOf kind (s .body) ∷ rs) (s ∷ gs)
+      kept kind n f t g = rw (record-exact kind (s .body) n) (whole-regrouped _ f t g)
+
+      job : s .type ≡ 5 → length (s .body) ≡ 68 → Settled (jobRecords r (s .body) ++ rs) (s ∷ gs)
+      job t n = rw (job-exact r (s .body) o n) (whole-regrouped _ refl (sym t) (λ mask. take-at (s .body) (1 ∷ []) 68 n))
+
+-- the segments of a packet come back from its records
+pub packet-regrouped : (r : Reading) (ss : List Segment) → isOlder r ≡ false → AllSound r ss → Settled (packetRecords r ss) ss
+unfolding packetRecords regroup
+packet-regrouped r [] o w mask = refl
+packet-regrouped r (s ∷ ss) o w mask = segment-regrouped s (packetRecords r ss) ss (packet-regrouped r ss o (w .1)) r o (w .0) mask

@@ -1,0 +1,189 @@
+-- Demand 2, of the definitions: the counts of a reading are its sheet's, and the writer accepts just the sheets that the Edition 3
+-- reading makes, and gives back the packet.
+-- Assumes nothing.
+use Prim.Native.Nat.{ℕ, _+_, _≤_}
+use native.Mathlib.Nat.{le-refl}
+use native.Mathlib.Omega.{arith}
+use mathlib.Core.Path.{_≡_, refl, sym, ap, ap₂, subst, _∙_}
+use mathlib.Core.Bool.{Bool, true, false, _&&_, true≢false}
+use mathlib.Core.List.{List, [], _∷_, _++_, append-nil}
+use borrow.Author.Tests.{le-ltb, eq-eqb, eqb-true, not-false}
+use lib.Dec.{ltb, eqb}
+use lib.ListN.{length, take, drop, length-drop, take-append-drop, drop-of-length-le}
+use lib.Seq.{take-at, getD-drop}
+use Rattle.octets.specs.Octets.{Bytes}
+use Rattle.octets.specs.Layout.{over}
+use Rattle.octets.proofs.Layouts.{pad-take}
+use Rattle.format.specs.declared.Check.{Check}
+use Rattle.format.specs.declared.Check.the-variants.{Passed, Failed}
+use Rattle.format.specs.declared.Answer.{Answer}
+use Rattle.format.specs.declared.Answer.the-variants.{Accepted, Refused}
+use Rattle.format.specs.Edition.{isOlder}
+use Rattle.format.specs.Sheet.{bodyLength, recordOf, headerRecord, packetRecords}
+use Rattle.format.specs.Answer.{Outcome, leftBy}
+use Rattle.format.specs.Rows.{firstRow}
+use Rattle.format.specs.Reader.{parsed, readingOf, dwellsIn, targetsIn, sheet, readingAnswer, read}
+use Rattle.format.specs.Writer.{isHeaded, calledFor, isComplete, Regrouped, segmentsBytes, spellRecords, spell, isAccepted, isSame, readsBack, sheetRows, writerRows, writingAnswer, write}
+use Rattle.format.proofs.Rows.{first-passes, neither}
+use Rattle.format.proofs.Records.{listed-sheet}
+use Rattle.demands.specs.Demands.{Counted, Demand2}
+use Rattle.format.proofs.Segments.{AllSound, parse-back, parse-sound}
+use Rattle.demands.proofs.Regroup.{packet-regrouped}
+use Rattle.demands.proofs.Complete.{Complete, packet-complete, packet-no-header}
+use Rattle.demands.proofs.Counts.{counts-are}
+use Rattle.demands.proofs.AreBytes.{spell-bytes}
+use Rattle.format.proofs.Acceptance.{no-refusal, same-counts, same-length, Acceptable, accepted-when, accepted-only, header-sized, read-when, read-only}
+
+-- ---- equal lists, by the test
+
+-- a list is the same as itself
+same-itself : (l : List ℕ) → isSame l l ≡ true
+unfolding isSame
+same-itself [] = refl
+same-itself (x ∷ xs) = rw (eq-eqb x x refl) (same-itself xs)
+
+-- and as no other one
+same-lists : (l m : List ℕ) → isSame l m ≡ true → l ≡ m
+unfolding isSame
+same-lists [] [] e = refl
+same-lists [] (y ∷ ys) e = absurd (true≢false (sym e))
+same-lists (x ∷ xs) [] e = absurd (true≢false (sym e))
+same-lists (x ∷ xs) (y ∷ ys) e = go (eqb x y) refl e (same-lists xs ys)
+  where
+    go : (t : Bool) → eqb x y ≡ t → (t && isSame xs ys) ≡ true → (isSame xs ys ≡ true → xs ≡ ys) → x ∷ xs ≡ y ∷ ys
+    go true p q i = ap₂ (λ (a : ℕ) (l : List ℕ). a ∷ l) (eqb-true x y p) (i q)
+    go false p q i = absurd (true≢false (sym q))
+
+-- ---- from a packet to its sheet and back
+
+module _ (l : List ℕ) (lent : ℕ) (a : Acceptable 3 l lent) where
+  -- the Edition 3 reading is never the older one
+  newest : isOlder (readingOf 3 l) ≡ false
+  unfolding isOlder
+  newest = refl
+
+  -- no row applies to its segments
+  sound : AllSound (readingOf 3 l) (parsed 3 l .segments)
+  unfolding parsed
+  sound = parse-sound (readingOf 3 l) (length (drop 32 l)) (drop 32 l) (rw length-drop (omega (arith, header-sized 3 l (a .header) .short)))
+
+  -- the sheet of an accepted packet spells that packet
+  spell-sheet : Bytes l → spell (sheet 3 l) ≡ l
+  unfolding spell spellRecords headerRecord recordOf bodyLength parsed
+  spell-sheet b =
+      rw (listed-sheet 3 l)
+      (ap₂ (λ (x y : List ℕ). x ++ y) (pad-take 32 l (header-sized 3 l (a .header) .long))
+      (ap (λ (x : Regrouped). segmentsBytes (x .segments)) (packet-regrouped (readingOf 3 l) (parsed 3 l .segments) newest sound 0)
+      ∙ parse-back (readingOf 3 l) (length (drop 32 l)) (drop 32 l) (le-refl _) (λ i. rw getD-drop (b (32 + i))) (a .ending))
+      ∙ take-append-drop 32 l)
+
+  -- the records of the sheet begin with the one header
+  headed : isHeaded (headerRecord l ∷ packetRecords (readingOf 3 l) (parsed 3 l .segments)) ≡ true
+  unfolding isHeaded headerRecord recordOf
+  headed = packet-no-header (readingOf 3 l) (parsed 3 l .segments)
+
+  -- and are complete
+  complete : Complete (headerRecord l ∷ packetRecords (readingOf 3 l) (parsed 3 l .segments))
+  unfolding isComplete headerRecord recordOf calledFor
+  complete = packet-complete (readingOf 3 l) (parsed 3 l .segments) newest sound
+
+  -- the packet reads back to its sheet
+  back : readsBack l (sheet 3 l) ≡ true
+  unfolding readsBack
+  back = rw (accepted-when 3 l (length (sheet 3 l)) (record { header = a .header; ending = a .ending; fits = le-refl _ }), same-itself (sheet 3 l))
+
+  -- so none of the writer's rows applies to the sheet
+  sheet-passes : (cap : ℕ) → Bytes l → length l ≤ cap → firstRow (writerRows (sheet 3 l) cap) ≡ Passed
+  unfolding firstRow writerRows sheetRows
+  sheet-passes cap b h =
+      rw (spell-sheet b, listed-sheet 3 l, headed, complete, le-ltb 65536 (length l) (header-sized 3 l (a .header) .short), back, le-ltb cap (length l) h)
+
+-- ---- what the writer answers
+
+-- an acceptance with the counts of the packet l
+abbrev countsOf : List ℕ → ℕ → Answer
+countsOf l n = Accepted (length (parsed 3 l .segments)) (dwellsIn (parsed 3 l .segments)) (targetsIn (parsed 3 l .segments)) n
+
+module _ (x buffer : List ℕ) where
+  -- the answer by the first row that applies
+  abbrev written : Check → Answer
+  written c = elim c [ Passed ↦ countsOf (spell x) (length (spell x)) | Failed number field ↦ Refused number 0 0 ]
+
+  -- where none applies, the spelt packet is laid into the buffer
+  written-when : firstRow (writerRows x (length buffer)) ≡ Passed → write x buffer ≡ record { answer = countsOf (spell x) (length (spell x)); left = over (spell x) buffer }
+  unfolding write writingAnswer leftBy
+  written-when e = ap (λ (c : Check). record { answer = written c; left = leftBy (written c) (spell x) buffer }) e
+
+  -- and where one does, the sheet is not accepted
+  written-only : (s d t n : ℕ) → write x buffer .answer ≡ Accepted s d t n → firstRow (writerRows x (length buffer)) ≡ Passed
+  unfolding write writingAnswer
+  written-only s d t n e = go (firstRow (writerRows x (length buffer))) refl e
+    where
+      go : (c : Check) → firstRow (writerRows x (length buffer)) ≡ c → written c ≡ Accepted s d t n → firstRow (writerRows x (length buffer)) ≡ Passed
+      go Passed h e = h
+      go (Failed number field) h e = no-refusal number 0 0 s d t n e
+
+  -- a sheet to which no row applies is the one that the packet spelt from it reads to
+  reads-back : firstRow (writerRows x (length buffer)) ≡ Passed → readsBack (spell x) x ≡ true
+  unfolding writerRows sheetRows
+  reads-back e =
+      let seventeen = first-passes _ _ e in
+      let eighteen = first-passes _ _ (seventeen .1) in
+      let nineteen = first-passes _ _ (eighteen .1) in
+      not-false _ (neither (ltb 65536 (length (spell x))) _ (nineteen .0) .1)
+
+-- what reading back says: the packet is accepted, and its sheet is this one
+back-means : (l x : List ℕ) → readsBack l x ≡ true → Acceptable 3 l (length x) × (sheet 3 l ≡ x)
+unfolding readsBack
+back-means l x e = go (readingAnswer 3 l (length x)) refl e
+  where
+    go : (a : Answer) → readingAnswer 3 l (length x) ≡ a → (isAccepted a && isSame (sheet 3 l) x) ≡ true → Acceptable 3 l (length x) × (sheet 3 l ≡ x)
+    go (Accepted s d t n) h e = (accepted-only 3 l (length x) s d t n h .0, same-lists (sheet 3 l) x e)
+    go (Refused number segment field) h e = absurd (true≢false (sym e))
+
+-- ---- the three parts of the demand
+
+-- the counts are the sheet's
+counted : (edition : ℕ) (l lent : List ℕ) (s d t n : ℕ) → read edition l lent .answer ≡ Accepted s d t n → Counted (sheet edition l) s d t n
+counted edition l lent s d t n e = go _ _ _ _ (read-only edition l lent s d t n e .1) (counts-are edition l)
+  where
+    go : (s′ d′ t′ n′ : ℕ) → Accepted s′ d′ t′ n′ ≡ Accepted s d t n → Counted (sheet edition l) s′ d′ t′ n′ → Counted (sheet edition l) s d t n
+    go s′ d′ t′ n′ h c = record { segments-are = cc; dwells-are = cc; targets-are = cc; length-is = cc }
+
+-- the sheet of an accepted packet is written as that packet
+sheet-written : (l lent buffer : List ℕ) (s d t n : ℕ) → Bytes l → read 3 l lent .answer ≡ Accepted s d t n → length l ≤ length buffer
+    → write (take n (read 3 l lent .left)) buffer ≡ record { answer = Accepted s d t (length l); left = over l buffer }
+unfolding over
+sheet-written l lent buffer s d t n b e h =
+    let a = read-only 3 l lent s d t n e in
+    let cut : take n (read 3 l lent .left) ≡ sheet 3 l =
+    ap (λ (o : Outcome). take n (o .left)) (read-when 3 l lent (a .0))
+    ∙ take-at (sheet 3 l) (drop (length (sheet 3 l)) lent) n (same-length _ _ _ _ s d t n (a .1)) in
+    rw cut
+    (written-when (sheet 3 l) buffer (sheet-passes l (length lent) (a .0) (length buffer) b h)
+    ∙ ap (λ (p : List ℕ). record { answer = countsOf p (length p); left = over p buffer }) (spell-sheet l (length lent) (a .0) b)
+    ∙ ap (λ (c : Answer). record { answer = c; left = over l buffer }) (same-counts _ _ _ _ s d t n (length l) (a .1)))
+
+-- a sheet that is written is the one of the packet that it is written as
+only-written : (x buffer : List ℕ) (s d t n : ℕ) → Bytes x → write x buffer .answer ≡ Accepted s d t n
+    → (l : List ℕ) × Bytes l × (length l ≡ n) × (write x buffer .left ≡ over l buffer)
+    × ((lent : List ℕ) → length lent ≡ length x → read 3 l lent ≡ record { answer = Accepted s d t (length x); left = x })
+unfolding over
+only-written x buffer s d t n b e =
+    let p = written-only x buffer s d t n e in
+    let w = written-when x buffer p in
+    let is : countsOf (spell x) (length (spell x)) ≡ Accepted s d t n = sym (ap (λ (o : Outcome). o .answer) w) ∙ e in
+    let r = back-means (spell x) x (reads-back x buffer p) in (
+      spell x,
+      spell-bytes x b,
+      same-length _ _ _ _ s d t n is,
+      ap (λ (o : Outcome). o .left) w,
+      λ lent h.
+          read-when 3 (spell x) lent (subst (Acceptable 3 (spell x)) (sym h) (r .0))
+          ∙ ap (λ (y : List ℕ). record { answer = countsOf (spell x) (length y); left = over y lent }) (r .1)
+          ∙ ap₂ (λ (c : Answer) (y : List ℕ). record { answer = c; left = y }) (same-counts _ _ _ _ s d t n (length x) is)
+          (ap (λ (y : List ℕ). x ++ y) (drop-of-length-le lent {i = length x} (omega arith)) ∙ append-nil x),
+    )
+
+pub demand-2 : Demand2
+demand-2 = record { counts = counted; sheets-are-written = sheet-written; only-sheets-are-written = only-written }

@@ -1,0 +1,65 @@
+// One announced field laid out at its full width: from p on in s, to q on in o. Every function over fields, here and in the crates
+// above, has the same contract, over a list of widths; it answers where the next field begins in s.
+ghost use mathlib.Core.Path.{_≡_};
+ghost use mathlib.Core.List.{[], _∷_};
+ghost use Prim.Native.Nat.{_+_, _≤_};
+ghost use lib.Bits.{bitAnd};
+ghost use lib.Dec.{eqb};
+ghost use lib.ListN.{length, drop};
+ghost use lib.Seq.{sets};
+ghost use Rattle.mask.specs.Fields.{announcedLength, fullFields};
+
+pub fn field1(s: &[u8], p: usize, mask: u64, n: usize, o: &mut [u8], q: usize) -> usize
+    requires { ⌜ (2 ≤ n) × (n ≤ 65) × (p + announcedLength mask n (1 ∷ []) ≤ length (now s)) × (q + 1 ≤ length (now o)) ⌝ }
+    ensures { λ r. ⌜ r ≡ p + announcedLength mask n (1 ∷ []) ⌝ }
+    ensures { λ _. ⌜ now (o .exit) ≡ sets (now (o .entry)) q (fullFields mask n (1 ∷ []) (drop p (now (s .entry)))) ⌝ }
+{
+    if mask::has(mask, n) {
+        copies::copy1(s, p, o, q);
+        p + 1
+    } else {
+        copies::clear1(o, q);
+        p
+    }
+}
+
+pub fn field2(s: &[u8], p: usize, mask: u64, n: usize, o: &mut [u8], q: usize) -> usize
+    requires { ⌜ (2 ≤ n) × (n ≤ 65) × (p + announcedLength mask n (2 ∷ []) ≤ length (now s)) × (q + 2 ≤ length (now o)) ⌝ }
+    ensures { λ r. ⌜ r ≡ p + announcedLength mask n (2 ∷ []) ⌝ }
+    ensures { λ _. ⌜ now (o .exit) ≡ sets (now (o .entry)) q (fullFields mask n (2 ∷ []) (drop p (now (s .entry)))) ⌝ }
+{
+    if mask::has(mask, n) {
+        copies::copy2(s, p, o, q);
+        p + 2
+    } else {
+        copies::clear2(o, q);
+        p
+    }
+}
+
+pub fn field4(s: &[u8], p: usize, mask: u64, n: usize, o: &mut [u8], q: usize) -> usize
+    requires { ⌜ (2 ≤ n) × (n ≤ 65) × (p + announcedLength mask n (4 ∷ []) ≤ length (now s)) × (q + 4 ≤ length (now o)) ⌝ }
+    ensures { λ r. ⌜ r ≡ p + announcedLength mask n (4 ∷ []) ⌝ }
+    ensures { λ _. ⌜ now (o .exit) ≡ sets (now (o .entry)) q (fullFields mask n (4 ∷ []) (drop p (now (s .entry)))) ⌝ }
+{
+    if mask::has(mask, n) {
+        copies::copy4(s, p, o, q);
+        p + 4
+    } else {
+        copies::clear4(o, q);
+        p
+    }
+}
+
+// Whether the mask has every field of the set, and whether it has none.
+pub fn has_all(mask: u64, set: u64) -> bool
+    ensures { λ r. ⌜ r ≡ eqb (bitAnd mask set) set ⌝ }
+{
+    mask & set == set
+}
+
+pub fn has_none(mask: u64, set: u64) -> bool
+    ensures { λ r. ⌜ r ≡ eqb (bitAnd mask set) 0 ⌝ }
+{
+    mask & set == 0
+}

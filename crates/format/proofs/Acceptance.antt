@@ -1,0 +1,100 @@
+-- What an accepted reading says: no row applies to the header, the walk over the segments ends with the packet, the sheet fits, and
+-- the counts and the length are those of what was read.
+-- Assumes nothing.
+use Prim.Native.Nat.{ℕ, _+_, _≤_}
+use native.Mathlib.Omega.{arith}
+use mathlib.Core.Path.{_≡_, refl, ap, _∙_}
+use mathlib.Core.Bool.{Bool, true, false, cond}
+use mathlib.Core.List.{List}
+use borrow.Author.Tests.{leb-true, ltb-false, le-leb}
+use lib.Dec.{ltb, leb}
+use lib.ListN.{length}
+use Rattle.octets.specs.Layout.{over}
+use Rattle.format.specs.declared.Check.{Check}
+use Rattle.format.specs.declared.Check.the-variants.{Passed, Failed}
+use Rattle.format.specs.declared.Answer.{Answer}
+use Rattle.format.specs.declared.Answer.the-variants.{Accepted, Refused}
+use Rattle.format.specs.Answer.{leftBy}
+use Rattle.format.specs.Rows.{firstRow, headerRows}
+use Rattle.format.specs.Reader.{parsed, sheet, dwellsIn, targetsIn, segmentsAnswer, readingAnswer, read}
+use Rattle.format.proofs.Rows.{first-passes, neither}
+
+-- an answer does not both accept and refuse
+pub no-refusal : {A : Type 0} (number segment field s d t n : ℕ) → Refused number segment field ≡ Accepted s d t n → A
+no-refusal number segment field s d t n e = let z : _≡_ {A = ℕ} 0 1 = cc in absurd (omega arith)
+
+-- equal acceptances have equal counts, whatever length stands beside them
+pub same-counts : (s d t n s′ d′ t′ n′ m : ℕ) → Accepted s d t n ≡ Accepted s′ d′ t′ n′ → Accepted s d t m ≡ Accepted s′ d′ t′ m
+same-counts s d t n s′ d′ t′ n′ m e = cc
+
+-- and equal lengths
+pub same-length : (s d t n s′ d′ t′ n′ : ℕ) → Accepted s d t n ≡ Accepted s′ d′ t′ n′ → n ≡ n′
+same-length s d t n s′ d′ t′ n′ e = cc
+
+-- the packet l is accepted where so many bytes are lent
+pub record Acceptable (edition : ℕ) (l : List ℕ) (lent : ℕ) : Type 0 where
+  pub header : firstRow (headerRows edition l) ≡ Passed
+  pub ending : parsed edition l .ending ≡ Passed
+  pub fits : length (sheet edition l) ≤ lent
+
+-- the answer that it then gets
+abbrev pub answerOf : ℕ → List ℕ → Answer
+answerOf edition l =
+    Accepted (length (parsed edition l .segments)) (dwellsIn (parsed edition l .segments)) (targetsIn (parsed edition l .segments)) (length (sheet edition l))
+
+module _ (edition : ℕ) (l : List ℕ) (lent : ℕ) where
+  -- the answer by how the walk over the segments ends, and by the first row of the header
+  abbrev segmentsRead : Check → Answer
+  segmentsRead c = segmentsAnswer (record { segments = parsed edition l .segments; ending = c }) (length (sheet edition l)) lent
+
+  abbrev headerRead : Check → Answer
+  headerRead c = elim c [ Passed ↦ segmentsRead (parsed edition l .ending) | Failed number field ↦ Refused number 0 field ]
+
+  -- an acceptable packet is accepted
+  pub accepted-when : Acceptable edition l lent → readingAnswer edition l lent ≡ answerOf edition l
+  unfolding readingAnswer
+  accepted-when a = ap headerRead (a .header) ∙ ap segmentsRead (a .ending) ∙ rw (le-leb _ _ (a .fits))
+
+  -- and no other one
+  pub accepted-only : (s d t n : ℕ) → readingAnswer edition l lent ≡ Accepted s d t n → Acceptable edition l lent × (answerOf edition l ≡ Accepted s d t n)
+  unfolding readingAnswer
+  accepted-only s d t n e = go (firstRow (headerRows edition l)) (parsed edition l .ending) (leb (length (sheet edition l)) lent) refl refl refl e
+    where
+      go : (c c′ : Check) (b : Bool) → firstRow (headerRows edition l) ≡ c → parsed edition l .ending ≡ c′ → leb (length (sheet edition l)) lent ≡ b
+          → elim c [
+            | Passed ↦ elim c′ [ Passed ↦ cond b (answerOf edition l) (Refused 16 0 0) | Failed number field ↦ Refused number (length (parsed edition l .segments) + 1) field ]
+            | Failed number field ↦ Refused number 0 field
+          ] ≡ Accepted s d t n
+          → Acceptable edition l lent × (answerOf edition l ≡ Accepted s d t n)
+      go (Failed number field) c′ b h p f e = no-refusal _ _ _ s d t n e
+      go Passed (Failed number field) b h p f e = no-refusal _ _ _ s d t n e
+      go Passed Passed false h p f e = no-refusal _ _ _ s d t n e
+      go Passed Passed true h p f e = (record { header = h; ending = p; fits = leb-true _ _ f }, e)
+
+-- an accepted packet has 32 to 65,536 bytes
+pub record Sized (l : List ℕ) : Type 0 where
+  pub long : 32 ≤ length l
+  pub short : length l ≤ 65536
+
+-- by row 2
+pub header-sized : (edition : ℕ) (l : List ℕ) → firstRow (headerRows edition l) ≡ Passed → Sized l
+unfolding headerRows
+header-sized edition l e =
+    let one = first-passes _ _ e in
+    let two = first-passes _ _ (one .1) in
+    let sizes = neither (ltb (length l) 32) (ltb 65536 (length l)) (two .0) in
+    record { long = ltb-false _ _ (sizes .0); short = ltb-false _ _ (sizes .1) }
+
+-- ---- what an accepted reading leaves
+
+-- the sheet is laid over what was lent
+pub read-when : (edition : ℕ) (l lent : List ℕ) → Acceptable edition l (length lent) → read edition l lent ≡ record { answer = answerOf edition l; left = over (sheet edition l) lent }
+unfolding read leftBy
+read-when edition l lent a =
+    ap (λ (c : Answer). record { answer = c; left = leftBy c (sheet edition l) lent }) (accepted-when edition l (length lent) a)
+
+-- an accepted packet is acceptable
+pub read-only : (edition : ℕ) (l lent : List ℕ) (s d t n : ℕ) → read edition l lent .answer ≡ Accepted s d t n
+    → Acceptable edition l (length lent) × (answerOf edition l ≡ Accepted s d t n)
+unfolding read
+read-only edition l lent s d t n e = accepted-only edition l (length lent) s d t n e
