@@ -22,9 +22,11 @@ use Rattle.demands.specs.First.{FirstRow, NoRow}
 use Rattle.demands.specs.Filled.{withheldSheet, filledIn}
 use Rattle.demands.specs.Counts.{count, isKind, isLeader}
 
+-- an accepted call, and what it leaves
 abbrev pub accepted : ℕ → ℕ → ℕ → ℕ → List ℕ → Outcome
 accepted segments dwells targets n left = record { answer = Accepted segments dwells targets n; left = left }
 
+-- a refused call, and what it leaves
 abbrev pub refused : ℕ → ℕ → ℕ → List ℕ → Outcome
 refused number segment field left = record { answer = Refused number segment field; left = left }
 
@@ -93,6 +95,7 @@ abbrev pub OlderReading : (l lent1 lent3 : List ℕ) (s d t n : ℕ) → New →
 OlderReading l lent1 lent3 s d t n nothing = ReadAlike l lent1 lent3 s d t n
 OlderReading l lent1 lent3 s d t n (found segment field) = read 1 l lent1 ≡ refused 15 segment field lent1
 
+-- demand 3, for every packet, both lent sheets and every buffer
 abbrev pub Demand3 : Type 0
 Demand3 = (l lent1 lent3 : List ℕ) (s d t n : ℕ) → BothRead l lent1 lent3 s d t n
     → OlderReading l lent1 lent3 s d t n (firstNew 1 (parsed 3 l .segments))

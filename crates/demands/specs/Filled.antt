@@ -10,10 +10,11 @@ use Rattle.format.specs.Packet.{jobWidths}
 use Rattle.format.specs.Sheet.{Record, recordBytes}
 use Rattle.format.specs.Writer.{listed}
 
--- the body of a kind 3 is D1 to D31, and the mark of D27 as field 32; that of a kind 8 is J1 to J28, and the mark of J26 as field 29
+-- the body of a kind 3 is D1 to D31, and the mark of D27 as field 32
 abbrev pub dwellBodyWidths : List ℕ
 dwellBodyWidths = 8 ∷ (dwellWidths ++ 1 ∷ [])
 
+-- that of a kind 8 is J1 to J28, and the mark of J26 as field 29
 abbrev pub jobBodyWidths : List ℕ
 jobBodyWidths = jobWidths ++ 1 ∷ []
 
@@ -28,6 +29,7 @@ changed f r = record {
 unfoldable pub withheldRecord : Record → Record
 withheldRecord r = changed (λ ws n mark b. zeroed 1 ws mark (zeroed 1 ws n b)) r
 
+-- so each record of a list
 unfoldable pub withheldRecords : List Record → List Record
 withheldRecords [] = []
 withheldRecords (r ∷ rs) = withheldRecord r ∷ withheldRecords rs
@@ -40,6 +42,7 @@ withheldSheet x = recordBytes (withheldRecords (listed x .records))
 unfoldable pub filledRecord : Record → Record → Record
 filledRecord r q = changed (λ ws n mark b. replaced 1 ws mark (1 ∷ []) (copied 1 ws n (q .body) b)) r
 
+-- so each record of the one list, of that at the same place in the other
 unfoldable pub filledRecords : List Record → List Record → List Record
 filledRecords [] qs = []
 filledRecords (r ∷ rs) [] = r ∷ rs

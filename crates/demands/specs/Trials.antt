@@ -13,6 +13,7 @@ use Rattle.format.specs.Writer.{listed, write}
 use Rattle.demands.specs.Filled.{withheldSheet, filledIn}
 use Rattle.demands.specs.Counts.{count, isKind, isLeader}
 
+-- the packet
 unfoldable pub mixed : List ℕ
 mixed = version3 (
     mission 12 31
@@ -20,6 +21,7 @@ mixed = version3 (
     ++ job 94
     ++ freeText 33)
 
+-- both readings of it, its withheld and filled sheets, its counts; and something new in a second segment
 unfoldable pub trials : List (Type 0)
 trials =
     (read 3 mixed (zeros 400) .answer ≡ Accepted 4 1 1 369)

@@ -24,6 +24,7 @@ dwellFields body = fullFields (maskOf body) 2 dwellWidths (drop 8 body)
 abbrev pub D : ℕ → List ℕ → ℕ
 D n fields = value 2 dwellWidths n fields
 
+-- the signed number in Dn ("D10 and D24 are SA32")
 abbrev pub D± : ℕ → List ℕ → ℤ
 D± n fields = signedValue 2 dwellWidths n fields
 
@@ -31,10 +32,11 @@ D± n fields = signedValue 2 dwellWidths n fields
 unfoldable pub targetCount : List ℕ → ℕ
 targetCount body = D 5 (dwellFields body)
 
--- "then D5 targets": the body from its first target on, and how many bytes each takes
+-- "then D5 targets": the body from its first target on
 unfoldable pub targetsOf : List ℕ → List ℕ
 targetsOf body = drop (8 + announcedLength (maskOf body) 2 dwellWidths) body
 
+-- how many bytes each target takes: its announced fields
 abbrev pub targetLength : ℕ → ℕ
 targetLength mask = announcedLength mask (d32 1) targetWidths
 
@@ -46,6 +48,7 @@ targetFields mask t = fullFields mask (d32 1) targetWidths t
 abbrev pub D32 : ℕ → List ℕ → ℕ
 D32 j target = value (d32 1) targetWidths (d32 j) target
 
+-- the signed number in D32.j ("D32.4 and D32.5 signed 16-bit")
 abbrev pub D32± : ℕ → List ℕ → ℤ
 D32± j target = signedValue (d32 1) targetWidths (d32 j) target
 

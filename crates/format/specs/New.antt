@@ -25,6 +25,7 @@ pub data New : Type 0 where
   nothing : New
   found : ℕ → ℕ → New
 
+-- demand 3: "names the first segment that holds any, and the field that document 01 gives for it"
 unfoldable pub firstNew : ℕ → List Segment → New
 firstNew n [] = nothing
 firstNew n (s ∷ ss) = elim (firstRow (newRows s)) [ Passed ↦ firstNew (suc n) ss | Failed number field ↦ found n field ]

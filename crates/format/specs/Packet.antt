@@ -31,17 +31,20 @@ isP1 l = (eqb (getD l 0 0) 0x31 || eqb (getD l 0 0) 0x33) && between 0x30 0x39 (
 unfoldable pub version : List ℕ → ℕ
 version l = getD l 0 0 - 0x30
 
--- "Each has a type (1), a size S2 (4) that counts its own 5 header bytes, and a body": those of the segment at the front of l
+-- "Each has a type (1), a size S2 (4) that counts its own 5 header bytes, and a body": the type of the
+-- segment at the front of l
 unfoldable pub typeAt : List ℕ → ℕ
 typeAt l = getD l 0 0
 
+-- "a size S2 (4)"
 unfoldable pub sizeAt : List ℕ → ℕ
 sizeAt l = be 4 (drop 1 l)
 
+-- "and a body": what S2 counts behind the 5 header bytes
 unfoldable pub bodyAt : List ℕ → List ℕ
 bodyAt l = drop 5 (take (sizeAt l) l)
 
--- a segment by itself, and its bytes, S2 worked out
+-- a segment by itself
 pub record Segment : Type 0 where
   pub type : ℕ
   pub body : List ℕ
@@ -50,6 +53,7 @@ pub record Segment : Type 0 where
 abbrev pub s2 : List ℕ → ℕ
 s2 body = 5 + length body
 
+-- type, S2 and body ("each segment with S2 worked out")
 unfoldable pub segmentBytes : Segment → List ℕ
 segmentBytes s = s .type ∷ (bytes 4 (s2 (s .body)) ++ s .body)
 
@@ -57,6 +61,7 @@ segmentBytes s = s .type ∷ (bytes 4 (s2 (s .body)) ++ s .body)
 abbrev pub opaqueTypes : List ℕ
 opaqueTypes = 3 ∷ 4 ∷ 7 ∷ 8 ∷ 9 ∷ 11 ∷ 12 ∷ 101 ∷ 102 ∷ []
 
+-- "No other type is known" than 1, 2, 5, 6, 10, 13 and these
 unfoldable pub isKnown : ℕ → Bool
 isKnown t = isIn t (1 ∷ 2 ∷ 5 ∷ 6 ∷ 10 ∷ 13 ∷ opaqueTypes)
 
@@ -64,6 +69,7 @@ isKnown t = isIn t (1 ∷ 2 ∷ 5 ∷ 6 ∷ 10 ∷ 13 ∷ opaqueTypes)
 abbrev pub missionWidths : List ℕ
 missionWidths = 12 ∷ 12 ∷ 1 ∷ 10 ∷ 2 ∷ 1 ∷ 1 ∷ []
 
+-- "M1 12 text, M2 12 text, .. M4 10 text"
 abbrev pub missionTexts : List ℕ
 missionTexts = 1 ∷ 2 ∷ 4 ∷ []
 
@@ -77,6 +83,7 @@ abbrev pub jobWidths : List ℕ
 jobWidths =
     4 ∷ 1 ∷ 6 ∷ 1 ∷ 1 ∷ 4 ∷ 4 ∷ 4 ∷ 4 ∷ 4 ∷ 4 ∷ 4 ∷ 4 ∷ 1 ∷ 2 ∷ 2 ∷ 2 ∷ 2 ∷ 1 ∷ 2 ∷ 2 ∷ 2 ∷ 2 ∷ 1 ∷ 1 ∷ 1 ∷ 1 ∷ 1 ∷ []
 
+-- "J3 6 text"
 abbrev pub jobTexts : List ℕ
 jobTexts = 3 ∷ []
 
@@ -88,5 +95,6 @@ J n body = value 1 jobWidths n body
 abbrev pub freeTextWidths : List ℕ → List ℕ
 freeTextWidths body = 10 ∷ 10 ∷ (length body - 20) ∷ []
 
+-- F1, F2, F3: "all text"
 abbrev pub freeTextTexts : List ℕ
 freeTextTexts = 1 ∷ 2 ∷ 3 ∷ []

@@ -21,6 +21,7 @@ pub record Parsed : Type 0 where
   pub segments : List Segment
   pub ending : Check
 
+-- "first fault wins": a segment to which a row applies ends the walk, and any other is followed by the rest
 abbrev pub onward : Check → Segment → Parsed → Parsed
 onward Passed s rest = record { segments = s ∷ rest .segments; ending = rest .ending }
 onward (Failed number field) s rest = record { segments = []; ending = Failed number field }
@@ -33,11 +34,12 @@ parse r (suc k) (x ∷ xs) =
     let l : List ℕ = x ∷ xs in
     onward (firstRow (segmentRows r l)) (record { type = typeAt l; body = bodyAt l }) (parse r k (drop (sizeAt l) l))
 
--- "segments, dwells (type 2 segments), targets"
+-- "dwells (type 2 segments)"
 unfoldable pub dwellsIn : List Segment → ℕ
 dwellsIn [] = 0
 dwellsIn (s ∷ ss) = cond (eqb (s .type) 2) 1 0 + dwellsIn ss
 
+-- "targets": the sum of D5 over the dwells
 unfoldable pub targetsIn : List Segment → ℕ
 targetsIn [] = 0
 targetsIn (s ∷ ss) = cond (eqb (s .type) 2) (targetCount (s .body)) 0 + targetsIn ss

@@ -25,6 +25,7 @@ pub record Row : Type 0 where
   pub field : ℕ
   pub applies : Bool
 
+-- the row with these three
 abbrev pub row : ℕ → ℕ → Bool → Row
 row number field applies = record { number = number; field = field; applies = applies }
 

@@ -6,10 +6,11 @@ use lib.ListN.{length, replicate}
 use Rattle.octets.specs.Octets.{bytes}
 use Rattle.format.specs.Packet.{segmentBytes}
 
--- so many bytes 0, and so many spaces
+-- so many bytes 0
 abbrev pub zeros : ℕ → List ℕ
 zeros n = replicate n 0
 
+-- so many spaces, which are text
 abbrev pub spaces : ℕ → List ℕ
 spaces n = replicate n 0x20
 
@@ -26,9 +27,11 @@ packet character segments =
     ++ zeros 8
     ++ segments
 
+-- a version 1 packet
 abbrev pub version1 : List ℕ → List ℕ
 version1 segments = packet 0x31 segments
 
+-- a version 3 packet
 abbrev pub version3 : List ℕ → List ℕ
 version3 segments = packet 0x33 segments
 
@@ -40,10 +43,11 @@ segment type body = segmentBytes (record { type = type; body = body })
 abbrev pub dwell : ℕ → List ℕ → List ℕ
 dwell mask fields = segment 2 (bytes 8 mask ++ fields)
 
--- D2 to D9 with D5, and D24 to D27 with D24 and D27, all else zero
+-- D2 to D9 with D5, all else zero
 abbrev pub d2to9 : ℕ → List ℕ
 d2to9 d5 = zeros 5 ++ bytes 2 d5 ++ zeros 16
 
+-- D24 to D27 with D24 and D27, all else zero
 abbrev pub d24to27 : ℕ → ℕ → List ℕ
 d24to27 d24 d27 = bytes 4 d24 ++ zeros 6 ++ bytes 2 d27
 
@@ -65,9 +69,10 @@ northmost delta = version3 (dwell 0xFFC0_03C0_6000_0000 (d2to9 1 ++ bytes 4 1 ++
 abbrev pub job : ℕ → List ℕ
 job j14 = segment 5 (zeros 5 ++ spaces 6 ++ zeros 34 ++ bytes 1 j14 ++ zeros 19 ++ bytes 1 0x56 ++ zeros 2)
 
--- a mission, and a free text of so many spaces in F3
+-- a mission with M6 and M7
 abbrev pub mission : ℕ → ℕ → List ℕ
 mission m6 m7 = segment 1 (spaces 24 ++ zeros 1 ++ spaces 10 ++ zeros 2 ++ m6 ∷ m7 ∷ [])
 
+-- a free text with so many spaces in F3
 abbrev pub freeText : ℕ → List ℕ
 freeText n = segment 6 (spaces 20 ++ spaces n)

@@ -24,6 +24,7 @@ pub record Record : Type 0 where
 abbrev pub bodyLengths : List ℕ
 bodyLengths = 0 ∷ 32 ∷ 39 ∷ 87 ∷ 44 ∷ 24 ∷ 33 ∷ 5 ∷ 69 ∷ 14 ∷ 23 ∷ []
 
+-- "a body whose length the kind fixes"
 unfoldable pub bodyLength : ℕ → ℕ
 bodyLength kind = getD bodyLengths kind 0
 
@@ -55,6 +56,7 @@ targetRecords mask dwell (suc n) t = targetRecord mask dwell t ∷ targetRecords
 unfoldable pub pieceRecord : List ℕ → Record
 pieceRecord b = recordOf 6 (min 32 (length b) ∷ take 32 b)
 
+-- n pieces in a row, "all full but the last"
 unfoldable pub pieceRecords : ℕ → List ℕ → List Record
 pieceRecords zero b = []
 pieceRecords (suc n) b = pieceRecord b ∷ pieceRecords n (drop 32 b)
@@ -63,6 +65,7 @@ pieceRecords (suc n) b = pieceRecord b ∷ pieceRecords n (drop 32 b)
 unfoldable pub pieceCount : ℕ → ℕ
 pieceCount n = (n + 31) / 32
 
+-- those that "carry the text or opaque body"
 abbrev pub piecesOf : List ℕ → List Record
 piecesOf b = pieceRecords (pieceCount (length b)) b
 
@@ -86,10 +89,11 @@ opaqueRecords type b = recordOf 7 (type ∷ bytes 4 (length b)) ∷ piecesOf b
 unfoldable pub jobRecords : Reading → List ℕ → List Record
 jobRecords r b = recordOf 8 (shown r 1 jobWidths 26 b ++ mark r ∷ []) ∷ []
 
--- "9 test, 14. 10 location, 23."
+-- "9 test, 14."
 abbrev pub testRecords : List ℕ → List Record
 testRecords b = recordOf 9 b ∷ []
 
+-- "10 location, 23."
 abbrev pub locationRecords : List ℕ → List Record
 locationRecords b = recordOf 10 b ∷ []
 

@@ -15,10 +15,11 @@ use Rattle.format.specs.Reader.{readingAnswer, sheet, read}
 use Rattle.format.specs.Writer.{write}
 use Rattle.format.specs.Samples.{zeros, version1, version3, segment, dwell, d2to9, d24to27, empty, printed, northmost, job, mission, freeText}
 
--- the readings with the program's sheet of 65,536 bytes
+-- the Edition 1 reading with the program's sheet of 65,536 bytes
 abbrev pub read1 : List ℕ → Answer
 read1 l = readingAnswer 1 l 65536
 
+-- the Edition 3 reading, as the program has it
 abbrev pub read3 : List ℕ → Answer
 read3 l = readingAnswer 3 l 65536
 
@@ -38,6 +39,7 @@ packets =
 unfoldable pub marked : List (Type 0)
 marked = positions ++ packets
 
+-- "prints ok 0 0 0 33" and the printed trial
 unfoldable pub printedResults : List (Type 0)
 printedResults =
     -- "A bare 32-byte header with P2 32 prints ok 0 0 0 33"

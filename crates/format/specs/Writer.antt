@@ -40,11 +40,12 @@ list (suc k) (kind ∷ x) =
 abbrev pub listed : List ℕ → Listed
 listed x = list (length x) x
 
--- "kind 1 .. exactly first": the first record has it, and no other
+-- no record is of kind 1
 unfoldable pub noHeader : List Record → Bool
 noHeader [] = true
 noHeader (r ∷ rs) = not (eqb (r .kind) 1) && noHeader rs
 
+-- "kind 1 not exactly first" is row 17's
 unfoldable pub isHeaded : List Record → Bool
 isHeaded [] = false
 isHeaded (r ∷ rs) = eqb (r .kind) 1 && noHeader rs
@@ -139,11 +140,12 @@ spell x = spellRecords (listed x .records)
 
 -- ---- row 19: "spelt bytes above 65,536 (even where an S2 won't fit), refused, or read to another sheet". Lists have no bound, so
 -- no length is lost where an S2 would not fit.
--- whether an answer is no refusal; and whether two runs of bytes are equal
+-- whether an answer is no refusal
 abbrev pub isAccepted : Answer → Bool
 isAccepted (Accepted segments dwells targets n) = true
 isAccepted (Refused number segment field) = false
 
+-- whether two runs of bytes are equal ("is this sheet")
 unfoldable pub isSame : List ℕ → List ℕ → Bool
 isSame [] [] = true
 isSame [] (y ∷ ys) = false

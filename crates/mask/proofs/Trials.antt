@@ -8,4 +8,4 @@ use Rattle.mask.specs.Trials.{trials}
 
 pub all-trials : Holds trials
 unfolding trials announced announcedLength dwellSize isRequired isReserved isIn anySet isGap isGapIn isDoubled isFault firstFrom lowestFault newInMask
-all-trials = (refl, (refl, (refl, (refl, (refl, (refl, (refl, (refl, (refl, (refl, (refl, (refl, (refl, (refl, (refl, (refl, (refl, (refl, tt))))))))))))))))))
+all-trials = (refl, (refl, (refl, (refl, (refl, (refl, (refl, (refl, (refl, (refl, (refl, (refl, (refl, (refl, (refl, (refl, (refl, (refl, (refl, tt)))))))))))))))))))

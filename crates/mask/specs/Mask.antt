@@ -7,6 +7,7 @@ use mathlib.Core.List.{List, [], _∷_, _++_}
 use lib.Dec.{leb, eqb}
 use Rattle.mask.specs.Fields.{announced, d32}
 
+-- n is one of a to b
 abbrev pub between : ℕ → ℕ → ℕ → Bool
 between a b n = leb a n && leb n b
 
@@ -30,17 +31,20 @@ groups =
     ∷ (d32 16 ∷ d32 17 ∷ [])
     ∷ []
 
--- "in version 1 also D28-30"
+-- "D28-30"
 abbrev pub d28to30 : List ℕ
 d28to30 = 28 ∷ 29 ∷ 30 ∷ []
 
+-- the groups of a version: those of all, and "in version 1 also D28-30"
 abbrev pub groupsOf : ℕ → List (List ℕ)
 groupsOf version = groups ++ cond (eqb version 1) (d28to30 ∷ []) []
 
+-- n is in the list
 unfoldable pub isIn : ℕ → List ℕ → Bool
 isIn n [] = false
 isIn n (x ∷ xs) = eqb n x || isIn n xs
 
+-- some field of the list is set
 unfoldable pub anySet : ℕ → List ℕ → Bool
 anySet mask [] = false
 anySet mask (n ∷ ns) = announced mask n || anySet mask ns
@@ -49,6 +53,7 @@ anySet mask (n ∷ ns) = announced mask n || anySet mask ns
 unfoldable pub isGap : ℕ → List ℕ → ℕ → Bool
 isGap mask group n = isIn n group && not (announced mask n) && anySet mask group
 
+-- "is unset while another of its group is set", of any of the groups
 unfoldable pub isGapIn : ℕ → List (List ℕ) → ℕ → Bool
 isGapIn mask [] n = false
 isGapIn mask (g ∷ gs) n = isGap mask g n || isGapIn mask gs n

@@ -5,6 +5,7 @@ use mathlib.Core.List.{List, [], _∷_}
 use Rattle.mask.specs.Fields.{dwellSize}
 use Rattle.mask.specs.Mask.{lowestFault, newInMask}
 
+-- sizes, lowest faults by version, and what is new
 unfoldable pub trials : List (Type 0)
 trials =
     (dwellSize 0xFF00_03C0_0000_0000 0 ≡ 48)
@@ -13,6 +14,7 @@ trials =
     ∷ (lowestFault 1 0xFF00_03C0_0000_0000 ≡ 0)
     ∷ (lowestFault 3 0xBF00_03C0_0000_0000 ≡ 3)
     ∷ (lowestFault 3 0xFF28_03C0_0000_0000 ≡ 13)
+    ∷ (lowestFault 3 0xFF30_03C0_0000_0000 ≡ 14)
     ∷ (lowestFault 3 0xFFC0_03C1_E000_0000 ≡ 35)
     ∷ (lowestFault 3 0xFF00_03C1_6000_0000 ≡ 10)
     ∷ (lowestFault 3 0xFF00_03C1_0000_0000 ≡ 34)

@@ -22,10 +22,11 @@ unfoldable pub total : List ℕ → ℕ
 total [] = 0
 total (w ∷ ws) = w + total ws
 
--- field n of the table: its width, and where it begins
+-- the width of field n of the table
 abbrev pub width : ℕ → List ℕ → ℕ → ℕ
 width first ws n = getD ws (n - first) 0
 
+-- where field n begins: after the widths before it
 abbrev pub offset : ℕ → List ℕ → ℕ → ℕ
 offset first ws n = total (take (n - first) ws)
 
@@ -33,19 +34,22 @@ offset first ws n = total (take (n - first) ws)
 unfoldable pub field : ℕ → List ℕ → ℕ → List ℕ → List ℕ
 field first ws n b = take (width first ws n) (drop (offset first ws n) b)
 
--- the unsigned and the signed number in field n
+-- the unsigned number in field n ("numbers are stored highest byte first")
 unfoldable pub value : ℕ → List ℕ → ℕ → List ℕ → ℕ
 value first ws n b = be (width first ws n) (drop (offset first ws n) b)
 
+-- the signed number in field n
 unfoldable pub signedValue : ℕ → List ℕ → ℕ → List ℕ → ℤ
 signedValue first ws n b = signed (width first ws n) (drop (offset first ws n) b)
 
--- b with the bytes v in the place of field n; with zeros there; with what a has there
+-- b with the bytes v in the place of field n
 unfoldable pub replaced : ℕ → List ℕ → ℕ → List ℕ → List ℕ → List ℕ
 replaced first ws n v b = take (offset first ws n) b ++ v ++ drop (offset first ws n + width first ws n) b
 
+-- b with zeros in field n ("withheld and zeroed")
 abbrev pub zeroed : ℕ → List ℕ → ℕ → List ℕ → List ℕ
 zeroed first ws n b = replaced first ws n (pad (width first ws n) []) b
 
+-- b with field n as a has it (demand 3: "Copy into it every D27 and J26")
 abbrev pub copied : ℕ → List ℕ → ℕ → List ℕ → List ℕ → List ℕ
 copied first ws n a b = replaced first ws n (field first ws n a) b

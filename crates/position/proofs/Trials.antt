@@ -12,4 +12,4 @@ all-marked = (refl, (refl, (refl, (refl, (refl, (refl, (refl, (refl, (refl, (ref
 
 pub all-signedDelta : Holds signedDelta
 unfolding signedDelta twos longitudeSum longitudeMicro reduced nearest fullCircle
-all-signedDelta = (refl, (refl, tt))
+all-signedDelta = (refl, (refl, (refl, (refl, tt))))

@@ -26,9 +26,13 @@ marked =
     ∷ (isLatitude (latitudeSum (pos 2) (pos 1) (twos 4 0x7FFFFFFF)) ≡ false)
     ∷ []
 
--- D25 0, D11 1, D32.5 -1: one step short of the full circle, which is 0; taken as unsigned, it would be 5493
+-- D32.4 and D32.5 are signed and multiply D10 and D11, not D24 and D25
 unfoldable pub signedDelta : List (Type 0)
 signedDelta =
-    (longitudeSum (twos 2 0xFFFF) 1 0 ≡ 0xFFFFFFFF)
+    -- the printed trial: D10 and D11 65536, D24 and D25 0, D32.4 -128, D32.5 -64
+    (latitudeSum (twos 2 0xFF80) (pos 65536) (pos 0) ≡ negsuc 8388607)
+    ∷ (longitudeSum (twos 2 0xFFC0) 65536 0 ≡ 0xFFC00000)
+    -- D25 0, D11 1, D32.5 -1: one step short of the full circle, which is 0; taken as unsigned, it would be 5493
+    ∷ (longitudeSum (twos 2 0xFFFF) 1 0 ≡ 0xFFFFFFFF)
     ∷ (longitudeMicro (longitudeSum (twos 2 0xFFFF) 1 0) ≡ 0)
     ∷ []

@@ -7,9 +7,11 @@ use mathlib.Core.List.{List, [], _∷_}
 use lib.Dec.{leb, eqb}
 use Rattle.octets.specs.Layout.{field}
 
+-- "only 0x20 to 0x7E, 0x0A, 0x0C, 0x0D"
 unfoldable pub isTextByte : ℕ → Bool
 isTextByte c = leb 0x20 c && leb c 0x7E || eqb c 0x0A || eqb c 0x0C || eqb c 0x0D
 
+-- each byte is one of them
 unfoldable pub isText : List ℕ → Bool
 isText [] = true
 isText (c ∷ cs) = isTextByte c && isText cs
