@@ -2,9 +2,11 @@
 -- Assumes nothing.
 use mathlib.Core.Path.{_≡_, sym, ap, _∙_}
 use mathlib.Core.List.{List, [], _∷_, _++_}
-use Prim.Native.Nat.{ℕ, _+_, _≤_}
+use Prim.Native.Nat.{ℕ, suc, _+_, _≤_, _<_}
+use native.Mathlib.Nat.{add-zero}
+use native.Mathlib.Numerals.{add-one}
 use native.Mathlib.Omega.{arith}
-use lib.ListN.{length, getD, take, drop, length-drop}
+use lib.ListN.{length, getD, set, take, drop, length-drop, drop-of-length-le}
 use lib.Seq.{sets, drop-cons, drop-drop, getD-drop, take-add, length-take-le}
 use Rattle.octets.specs.Octets.{be, bytes, Bytes}
 use Rattle.octets.proofs.Laws.{bytes-be, then}
@@ -24,3 +26,16 @@ pub copied-both : (j k : ℕ) (s l : List ℕ) (p q : ℕ) {a b : List ℕ} → 
 copied-both j k s l p q {a} h ha hb =
     then (take j (drop p s)) (take k (drop (p + j) s)) l q j ha (length-take-le j (drop p s) (rw (length-drop p s) (omega arith))) hb
     ∙ ap (sets l q) (ap (λ (t : List ℕ). take j (drop p s) ++ take k t) (sym (drop-drop j p s)) ∙ sym (take-add j k (drop p s)))
+
+-- a copy byte by byte: once the byte at i is stored, what is left to store still gives the whole copy
+pub copied-next : (s o w : List ℕ) (q i : ℕ) → i < length s → sets o (q + i) (drop i s) ≡ w → sets (set o (q + i) (getD s i 0)) (q + (i + 1)) (drop (i + 1) s) ≡ w
+copied-next s o w q i h e =
+    let n : q + (i + 1) ≡ suc (q + i) = omega arith in
+    rw (n, add-one i) (rw (drop-cons s i 0 h) at e)
+
+-- at first all is left to store, and at the end nothing
+pub copied-first : (s o : List ℕ) (q : ℕ) → sets o (q + 0) (drop 0 s) ≡ sets o q s
+copied-first s o q = rw add-zero
+
+pub copied-last : (s o w : List ℕ) (q i : ℕ) → length s ≤ i → sets o (q + i) (drop i s) ≡ w → o ≡ w
+copied-last s o w q i h e = rw (drop-of-length-le s h) at e

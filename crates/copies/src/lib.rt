@@ -61,6 +61,60 @@ pub fn copy23(s: &[u8], p: usize, o: &mut [u8], q: usize)
     copy1(s, p + 22, o, q + 22);
 }
 
+pub fn copy14(s: &[u8], p: usize, o: &mut [u8], q: usize)
+    requires { ⌜ (p + 14 ≤ length (now s)) × (q + 14 ≤ length (now o)) ⌝ }
+    ensures { λ _. ⌜ now (o .exit) ≡ sets (now (o .entry)) q (take 14 (drop p (now (s .entry)))) ⌝ }
+{
+    copy8(s, p, o, q);
+    copy4(s, p + 8, o, q + 8);
+    copy2(s, p + 12, o, q + 12);
+}
+
+pub fn copy20(s: &[u8], p: usize, o: &mut [u8], q: usize)
+    requires { ⌜ (p + 20 ≤ length (now s)) × (q + 20 ≤ length (now o)) ⌝ }
+    ensures { λ _. ⌜ now (o .exit) ≡ sets (now (o .entry)) q (take 20 (drop p (now (s .entry)))) ⌝ }
+{
+    copy16(s, p, o, q);
+    copy4(s, p + 16, o, q + 16);
+}
+
+pub fn copy32(s: &[u8], p: usize, o: &mut [u8], q: usize)
+    requires { ⌜ (p + 32 ≤ length (now s)) × (q + 32 ≤ length (now o)) ⌝ }
+    ensures { λ _. ⌜ now (o .exit) ≡ sets (now (o .entry)) q (take 32 (drop p (now (s .entry)))) ⌝ }
+{
+    copy16(s, p, o, q);
+    copy16(s, p + 16, o, q + 16);
+}
+
+pub fn copy39(s: &[u8], p: usize, o: &mut [u8], q: usize)
+    requires { ⌜ (p + 39 ≤ length (now s)) × (q + 39 ≤ length (now o)) ⌝ }
+    ensures { λ _. ⌜ now (o .exit) ≡ sets (now (o .entry)) q (take 39 (drop p (now (s .entry)))) ⌝ }
+{
+    copy32(s, p, o, q);
+    copy4(s, p + 32, o, q + 32);
+    copy2(s, p + 36, o, q + 36);
+    copy1(s, p + 38, o, q + 38);
+}
+
+pub fn copy68(s: &[u8], p: usize, o: &mut [u8], q: usize)
+    requires { ⌜ (p + 68 ≤ length (now s)) × (q + 68 ≤ length (now o)) ⌝ }
+    ensures { λ _. ⌜ now (o .exit) ≡ sets (now (o .entry)) q (take 68 (drop p (now (s .entry)))) ⌝ }
+{
+    copy32(s, p, o, q);
+    copy32(s, p + 32, o, q + 32);
+    copy4(s, p + 64, o, q + 64);
+}
+
+// All of s, byte by byte: for the few bytes of a last piece.
+pub fn copy_all(s: &[u8], o: &mut [u8], q: usize)
+    requires { ⌜ q + length (now s) ≤ length (now o) ⌝ }
+    ensures { λ _. ⌜ now (o .exit) ≡ sets (now (o .entry)) q (now (s .entry)) ⌝ }
+{
+    for i in 0..s.len() {
+        o[q + i] = s[i];
+    }
+}
+
 pub fn clear1(o: &mut [u8], q: usize)
     requires { ⌜ q + 1 ≤ length (now o) ⌝ }
     ensures { λ _. ⌜ now (o .exit) ≡ sets (now (o .entry)) q (pad 1 []) ⌝ }
@@ -95,4 +149,12 @@ pub fn clear16(o: &mut [u8], q: usize)
 {
     clear8(o, q);
     clear8(o, q + 8);
+}
+
+pub fn clear32(o: &mut [u8], q: usize)
+    requires { ⌜ q + 32 ≤ length (now o) ⌝ }
+    ensures { λ _. ⌜ now (o .exit) ≡ sets (now (o .entry)) q (pad 32 []) ⌝ }
+{
+    clear16(o, q);
+    clear16(o, q + 16);
 }

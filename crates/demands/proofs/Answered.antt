@@ -1,10 +1,9 @@
 -- Demand 1, of the definitions: whatever the bytes, the edition and the lent memory, a call ends as document 01 says.
 -- Assumes nothing.
-use Prim.Native.Nat.{ℕ, zero, _+_, _≤_, _<_}
+use Prim.Native.Nat.{ℕ}
 use native.Mathlib.Nat.{add-zero, le-refl}
 use native.Mathlib.Numerals.{add-one}
-use native.Mathlib.Omega.{arith}
-use mathlib.Core.Path.{_≡_, refl, sym, ap, subst}
+use mathlib.Core.Path.{_≡_, refl, subst}
 use mathlib.Core.Bool.{Bool, true, false, cond}
 use mathlib.Core.List.{List}
 use borrow.Author.Tests.{leb-true, leb-false}
@@ -14,17 +13,17 @@ use Rattle.format.specs.declared.Check.{Check}
 use Rattle.format.specs.declared.Check.the-variants.{Passed, Failed}
 use Rattle.format.specs.declared.Answer.{Answer}
 use Rattle.format.specs.declared.Answer.the-variants.{Accepted, Refused}
-use Rattle.format.specs.Answer.{Outcome, leftBy}
+use Rattle.format.specs.Answer.{Outcome, outcome, leftBy}
 use Rattle.format.specs.Rows.{firstRow, headerRows}
-use Rattle.format.specs.Reader.{Parsed, parsed, readingOf, dwellsIn, targetsIn, sheet, segmentsAnswer, readingAnswer, read}
+use Rattle.format.specs.Reader.{parsed, readingOf, dwellsIn, targetsIn, sheet, segmentsAnswer, readingAnswer, read}
 use Rattle.format.specs.Writer.{writerRows, spell, writingAnswer, write}
-use Rattle.demands.specs.First.{Passes, none, FirstRow, of-header, of-segment, of-end, NoRow}
+use Rattle.demands.specs.First.{none, of-header, of-segment, of-end}
 use Rattle.demands.specs.Demands.{Reads, Writes, Demand1}
 use Rattle.demands.proofs.Walk.{Stopped, walk}
 
 module _ (edition : ℕ) (l lent : List ℕ) where
   abbrev answered : Answer → Outcome
-  answered a = record { answer = a; left = leftBy a (sheet edition l) lent }
+  answered a = outcome a (leftBy a (sheet edition l) lent)
 
   stopped : Stopped (readingOf edition l) (drop 32 l) (length (parsed edition l .segments)) (parsed edition l .ending)
   unfolding parsed
@@ -59,7 +58,7 @@ unfolding write writingAnswer leftBy
 writes x lent = go (firstRow (writerRows x (length lent))) refl
   where
     answered : Answer → Outcome
-    answered a = record { answer = a; left = leftBy a (spell x) lent }
+    answered a = outcome a (leftBy a (spell x) lent)
 
     go : (c : Check) → firstRow (writerRows x (length lent)) ≡ c
         → Writes x lent (answered (elim c [

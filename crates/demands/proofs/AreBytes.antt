@@ -1,12 +1,10 @@
 -- What the writer spells from bytes is bytes.
 -- Assumes nothing.
-use Prim.Native.Nat.{ℕ, zero, suc, _+_, _/_, _%_, _<_}
-use native.Mathlib.Omega.{arith}
+use Prim.Native.Nat.{ℕ, zero, suc, _+_, _<_}
 use mathlib.Core.Bool.{Bool, true, false, cond, _&&_}
 use mathlib.Core.List.{List, [], _∷_, _++_}
 use lib.Dec.{ltb, leb, eqb, lit<}
 use lib.ListN.{length, getD, take, drop}
-use lib.Seq.{getD-drop}
 use Rattle.octets.specs.Octets.{be, bytes, Bytes}
 use Rattle.octets.proofs.ByteLists.{nil-bytes, cons-bytes, append-bytes, take-bytes, drop-bytes, number-bytes}
 use Rattle.mask.specs.Fields.{announcedFields, taken, dwellWidths, targetWidths, d32}

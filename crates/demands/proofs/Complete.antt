@@ -15,6 +15,7 @@ use Rattle.octets.specs.Octets.{be, bytes}
 use Rattle.octets.specs.Layout.{pad, total, value}
 use Rattle.octets.proofs.Laws.{be-bytes}
 use Rattle.format.specs.declared.Reading.{Reading}
+use Rattle.format.specs.declared.Area.{Area}
 use Rattle.format.specs.Packet.{Segment}
 use Rattle.format.specs.Dwell.{D, dwellFields, targetCount}
 use Rattle.format.specs.Edition.{isOlder}
@@ -23,7 +24,8 @@ use Rattle.format.specs.Writer.{noHeader, calledFor, isFollower, isComplete}
 use Rattle.format.proofs.Records.{by-type}
 use Rattle.format.proofs.Segments.{Sound, AllSound, by-rows}
 use Rattle.octets.proofs.Laws.{be-front}
-use Rattle.format.proofs.Bodies.{text-length, dwell-length, length-dwell, dwell-exact, text-exact, opaque-exact}
+use Rattle.format.proofs.Dwells.{is-dwell}
+use Rattle.format.proofs.Bodies.{text-length, length-dwell, dwell-exact, text-exact, opaque-exact}
 
 -- nothing is called for, and nothing lacks
 abbrev pub Complete : List Record → Type 0
@@ -35,13 +37,13 @@ unfolding isComplete
 leads q rs f e = rw (f, e)
 
 -- so many targets are had where they are called for
-targets-complete : (mask : ℕ) (dwell : List ℕ) (n : ℕ) (t : List ℕ) (rs : List Record) → Complete rs
-    → isComplete (record { targets = n; bytes = 0 }) (targetRecords mask dwell n t ++ rs) ≡ true
+targets-complete : (mask : ℕ) (area : Area) (n : ℕ) (t : List ℕ) (rs : List Record) → Complete rs
+    → isComplete (record { targets = n; bytes = 0 }) (targetRecords mask area n t ++ rs) ≡ true
 unfolding isComplete targetRecords targetRecord recordOf
-targets-complete mask dwell zero t rs h = h
-targets-complete mask dwell (suc n) t rs h =
+targets-complete mask area zero t rs h = h
+targets-complete mask area (suc n) t rs h =
     let e : suc n - 1 ≡ n = omega arith in
-    rw (lt-ltb 0 (suc n) (omega arith), e) (targets-complete mask dwell n _ rs h)
+    rw (lt-ltb 0 (suc n) (omega arith), e) (targets-complete mask area n _ rs h)
 
 -- so are pieces of so many bytes
 pieces-from : (n : ℕ) (b : List ℕ) (rs : List Record) → length b ≤ n * 32 → n * 32 < length b + 32 → Complete rs
@@ -104,7 +106,7 @@ module _ (r : Reading) (s : Segment) (rs : List Record) (c : Complete rs) where
   segment-complete o w =
       by-rows (λ (qs : List Record). Complete (qs ++ rs)) r s (w .rows)
       (λ t e. leads _ rs refl c)
-      (λ t e. dwell-complete o (omega (arith, dwell-length r (s .body) e)))
+      (λ t e. dwell-complete o (omega (arith, is-dwell r (s .body) e .exact)))
       (λ t e. leads _ rs refl c)
       (λ t e. text-complete (text-length (s .body) e) (w .short))
       (λ t e. leads _ rs refl c)
@@ -130,10 +132,10 @@ no-header-append (r ∷ rs) qs h k = go (eqb (r .kind) 1) h (no-header-append rs
     go false h i = i h k
 
 -- targets
-targets-no-header : (mask : ℕ) (dwell : List ℕ) (n : ℕ) (t : List ℕ) → noHeader (targetRecords mask dwell n t) ≡ true
+targets-no-header : (mask : ℕ) (area : Area) (n : ℕ) (t : List ℕ) → noHeader (targetRecords mask area n t) ≡ true
 unfolding noHeader targetRecords targetRecord recordOf
-targets-no-header mask dwell zero t = refl
-targets-no-header mask dwell (suc n) t = targets-no-header mask dwell n _
+targets-no-header mask area zero t = refl
+targets-no-header mask area (suc n) t = targets-no-header mask area n _
 
 -- pieces
 pieces-no-header : (n : ℕ) (b : List ℕ) → noHeader (pieceRecords n b) ≡ true

@@ -10,6 +10,7 @@ use borrow.Author.Tests.{eqb-true}
 use lib.Dec.{eqb}
 use lib.ListN.{length, drop}
 use Rattle.format.specs.declared.Reading.{Reading}
+use Rattle.format.specs.declared.Area.{Area}
 use Rattle.format.specs.Packet.{Segment}
 use Rattle.format.specs.Dwell.{targetCount}
 use Rattle.format.specs.Sheet.{Record, recordOf, headerRecord, dwellRecord, targetRecord, targetRecords, pieceRecord, pieceRecords, missionRecords, dwellRecords, textRecords, opaqueRecords, jobRecords, testRecords, locationRecords, segmentRecords, packetRecords}
@@ -32,12 +33,12 @@ module _ (g : ℕ → Bool) (c : Bool) (piece : g 6 ≡ false)
   counts rs = count (λ (q : Record). g (q .kind)) rs
 
   -- targets count alike
-  count-targets : (mask : ℕ) (dwell : List ℕ) (n : ℕ) (t : List ℕ) → counts (targetRecords mask dwell n t) ≡ n * cond (g 4) 1 0
+  count-targets : (mask : ℕ) (area : Area) (n : ℕ) (t : List ℕ) → counts (targetRecords mask area n t) ≡ n * cond (g 4) 1 0
   unfolding count targetRecords targetRecord recordOf
-  count-targets mask dwell zero t = sym (zero-mul (cond (g 4) 1 0))
-  count-targets mask dwell (suc n) t =
+  count-targets mask area zero t = sym (zero-mul (cond (g 4) 1 0))
+  count-targets mask area (suc n) t =
       let e : cond (g 4) 1 0 + n * cond (g 4) 1 0 ≡ suc n * cond (g 4) 1 0 = omega arith in
-      ap (λ (m : ℕ). cond (g 4) 1 0 + m) (count-targets mask dwell n _) ∙ e
+      ap (λ (m : ℕ). cond (g 4) 1 0 + m) (count-targets mask area n _) ∙ e
 
   -- pieces count nothing
   count-pieces : (n : ℕ) (b : List ℕ) → counts (pieceRecords n b) ≡ 0

@@ -15,14 +15,14 @@ use Rattle.format.specs.declared.Answer.the-variants.{Accepted, Refused}
 use Rattle.format.specs.Packet.{version}
 use Rattle.format.specs.Edition.{isOlder}
 use Rattle.format.specs.Sheet.{headerRecord, packetRecords, recordBytes}
-use Rattle.format.specs.Answer.{leftBy}
+use Rattle.format.specs.Answer.{outcome, leftBy}
 use Rattle.format.specs.Rows.{firstRow, headerRows}
 use Rattle.format.specs.New.{New, nothing, found, firstNew}
 use Rattle.format.specs.Reader.{Parsed, parsed, readingOf, sheet, segmentsAnswer, readingAnswer, read}
 use Rattle.format.specs.Writer.{Listed, write}
 use Rattle.format.proofs.Records.{listed-sheet}
 use Rattle.demands.specs.Filled.{withheldRecords, withheldSheet, filledRecords, filledIn}
-use Rattle.demands.specs.Demands.{BothRead, ReadAlike, OlderReading, Demand3}
+use Rattle.demands.specs.Demands.{ReadAlike, OlderReading, Demand3}
 use Rattle.format.proofs.Segments.{parse-sound}
 use Rattle.format.proofs.Acceptance.{Acceptable, same-length, header-sized, read-only}
 use Rattle.demands.proofs.OlderWalk.{Older, older-walk}
@@ -130,5 +130,5 @@ demand-3 l lent1 lent3 s d t n both = go (firstNew 1 (parsed 3 l .segments)) (wa
     go : (new : New) → Older 1 (parsed 1 l) (parsed 3 l) new → OlderReading l lent1 lent3 s d t n new
     go nothing same = alike same
     go (found segment field) w =
-        ap (λ (a : Answer). record { answer = a; left = leftBy a (sheet 1 l) lent1 })
+        ap (λ (a : Answer). outcome a (leftBy a (sheet 1 l) lent1))
         (answer-new l v (length lent1) segment field (known .header) (w .0) (w .1))

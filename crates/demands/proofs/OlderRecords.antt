@@ -14,6 +14,7 @@ use Rattle.octets.proofs.Layouts.{pad-same}
 use Rattle.mask.specs.Fields.{dwellWidths}
 use Rattle.mask.proofs.FullWidth.{length-full}
 use Rattle.format.specs.declared.Reading.{Reading}
+use Rattle.format.specs.declared.Area.{Area}
 use Rattle.format.specs.declared.Check.the-variants.{Passed}
 use Rattle.format.specs.Packet.{Segment, s2}
 use Rattle.format.specs.Dwell.{maskOf, dwellFields}
@@ -38,10 +39,10 @@ unfolding headerRecord
 header-alike l = same-record 1 l refl refl
 
 -- and the targets
-targets-alike : (m : ℕ) (fields : List ℕ) (n : ℕ) (t : List ℕ) → AllAlike (targetRecords m fields n t) (targetRecords m fields n t)
+targets-alike : (m : ℕ) (area : Area) (n : ℕ) (t : List ℕ) → AllAlike (targetRecords m area n t) (targetRecords m area n t)
 unfolding targetRecords targetRecord
-targets-alike m fields zero t = none
-targets-alike m fields (suc n) t = next (same-record 4 _ refl refl) (targets-alike m fields n _)
+targets-alike m area zero t = none
+targets-alike m area (suc n) t = next (same-record 4 _ refl refl) (targets-alike m area n _)
 
 -- and the pieces
 pieces-alike : (n : ℕ) (b : List ℕ) → AllAlike (pieceRecords n b) (pieceRecords n b)

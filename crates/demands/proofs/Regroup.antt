@@ -15,15 +15,17 @@ use Rattle.octets.proofs.Layouts.{pad-append, take-pad}
 use Rattle.mask.specs.Fields.{announcedLength, announcedFields, fullFields, dwellWidths, targetWidths, d32}
 use Rattle.mask.proofs.FullWidth.{length-full, announced-full}
 use Rattle.format.specs.declared.Reading.{Reading}
+use Rattle.format.specs.declared.Area.{Area}
 use Rattle.format.specs.declared.Check.the-variants.{Passed}
 use Rattle.format.specs.Packet.{Segment}
-use Rattle.format.specs.Dwell.{maskOf, dwellFields, targetCount, targetsOf, targetLength, targetFields}
+use Rattle.format.specs.Dwell.{maskOf, dwellFields, areaOf, targetCount, targetsOf, targetLength, targetFields}
 use Rattle.format.specs.Edition.{isOlder}
 use Rattle.format.specs.Sheet.{Record, bodyLength, recordOf, targetRecord, targetRecords, pieceRecord, pieceRecords, pieceCount, piecesOf, dwellRecords, textRecords, opaqueRecords, jobRecords, segmentRecords, packetRecords}
 use Rattle.format.specs.Rows.{firstRow, dwellRows}
 use Rattle.format.specs.Writer.{isFollower, typeOf, given, maskAfter, regroup}
 use Rattle.format.proofs.Segments.{Sound, AllSound, by-rows}
-use Rattle.format.proofs.Bodies.{mission-length, job-length, kept-length, text-length, dwell-length, record-exact, dwell-exact, job-exact, text-exact, opaque-exact}
+use Rattle.format.proofs.Dwells.{is-dwell}
+use Rattle.format.proofs.Bodies.{mission-length, job-length, kept-length, text-length, record-exact, dwell-exact, job-exact, text-exact, opaque-exact}
 
 -- records that begin with no follower and give these segments: their regrouping goes by no mask
 abbrev pub Settled : List Record → List Segment → Type 0
@@ -62,22 +64,22 @@ dwell-given b h =
     ∙ sym (take-add 8 size b)
 
 -- a target's record gives the bytes that it was made of
-target-given : (mask : ℕ) (dwell t : List ℕ) → targetLength mask ≤ length t → given mask (targetRecord mask dwell t) ≡ take (targetLength mask) t
+target-given : (mask : ℕ) (area : Area) (t : List ℕ) → targetLength mask ≤ length t → given mask (targetRecord mask area t) ≡ take (targetLength mask) t
 unfolding given targetRecord recordOf bodyLength targetFields total
-target-given mask dwell t h =
+target-given mask area t h =
     let n : 44 ≡ length (fullFields mask (d32 1) targetWidths t) + 8 = rw (length-full mask (d32 1) targetWidths t) in
     rw (append-assoc, pad-append 44 8 (fullFields mask (d32 1) targetWidths t) _ n) (announced-full mask (d32 1) targetWidths t _ h)
 
 -- targets in a row give theirs, before what follows them
-targets-regrouped : (mask : ℕ) (dwell : List ℕ) (n : ℕ) (t : List ℕ) (rs : List Record) (gs : List Segment) → n * targetLength mask ≤ length t → Settled rs gs
-    → regroup mask (targetRecords mask dwell n t ++ rs) ≡ record { front = take (n * targetLength mask) t; segments = gs }
+targets-regrouped : (mask : ℕ) (area : Area) (n : ℕ) (t : List ℕ) (rs : List Record) (gs : List Segment) → n * targetLength mask ≤ length t → Settled rs gs
+    → regroup mask (targetRecords mask area n t ++ rs) ≡ record { front = take (n * targetLength mask) t; segments = gs }
 unfolding targetRecords targetRecord recordOf
-targets-regrouped mask dwell zero t rs gs h s = rw zero-mul (s mask)
-targets-regrouped mask dwell (suc n) t rs gs h s =
+targets-regrouped mask area zero t rs gs h s = rw zero-mul (s mask)
+targets-regrouped mask area (suc n) t rs gs h s =
     let u = targetLength mask in
     let e : suc n * u ≡ u + n * u = omega arith in
     rw (e, take-add u (n * u) t)
-    (follows (targetRecord mask dwell t) _ mask _ _ gs refl (targets-regrouped mask dwell n (drop u t) rs gs (rw length-drop (omega arith)) s) (target-given mask dwell t (omega arith)))
+    (follows (targetRecord mask area t) _ mask _ _ gs refl (targets-regrouped mask area n (drop u t) rs gs (rw length-drop (omega arith)) s) (target-given mask area t (omega arith)))
 
 -- ---- pieces
 
@@ -120,11 +122,11 @@ module _ (s : Segment) (rs : List Record) (gs : List Segment) (settled : Settled
       let b = s .body in
       let from = 8 + announcedLength (maskOf b) 2 dwellWidths in
       let size = targetCount b * targetLength (maskOf b) in
-      let n : length b ≡ from + size = dwell-length r b e in
+      let n : length b ≡ from + size = is-dwell r b e .exact in
       let m : be 8 (take 8 b ++ (dwellFields b ++ 1 ∷ [])) ≡ maskOf b = be-taken 8 b (dwellFields b ++ 1 ∷ []) (omega arith) in
       let all : take from b ++ take size (drop from b) ≡ b = sym (take-add from size b) ∙ take-all (from + size) b (omega arith) in
       rw (dwell-exact r b o (omega arith))
-      (leads _ _ mask s (take size (drop from b)) gs refl (rw m (targets-regrouped (maskOf b) (dwellFields b) (targetCount b) (drop from b) rs gs (rw length-drop (omega arith)) settled)) (sym t)
+      (leads _ _ mask s (take size (drop from b)) gs refl (rw m (targets-regrouped (maskOf b) (areaOf (dwellFields b)) (targetCount b) (drop from b) rs gs (rw length-drop (omega arith)) settled)) (sym t)
       (ap (λ (x : List ℕ). x ++ take size (drop from b)) (dwell-given b (omega arith)) ∙ all))
 
   -- a text with its pieces

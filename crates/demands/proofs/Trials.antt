@@ -9,10 +9,10 @@ use Rattle.mask.specs.Fields.{announced, announcedLength, fullFields, announced
 use Rattle.mask.specs.Mask.{isRequired, isReserved, isIn, anySet, isGap, isGapIn, isDoubled, isFault, firstFrom, lowestFault, newInMask, isPlaced}
 use Rattle.position.specs.Position.{isLatitude, reduced, longitudeSum, nearest, rounded, latitudeMicro, fullCircle, longitudeMicro}
 use Rattle.format.specs.Packet.{isP1, version, typeAt, sizeAt, bodyAt, segmentBytes, isKnown}
-use Rattle.format.specs.Dwell.{maskOf, dwellFields, targetCount, targetsOf, targetFields, latitude, longitude}
+use Rattle.format.specs.Dwell.{maskOf, dwellFields, targetCount, targetsOf, targetFields, areaOf, latitude, longitude}
 use Rattle.format.specs.Edition.{isOlder, shown, mark, isNewMode}
 use Rattle.format.specs.Sheet.{bodyLength, recordOf, headerRecord, dwellRecord, targetRecord, targetRecords, pieceRecord, pieceRecords, pieceCount, dwellRecords, textRecords, opaqueRecords, jobRecords, segmentRecords, packetRecords, recordBytes}
-use Rattle.format.specs.Answer.{leftBy}
+use Rattle.format.specs.Answer.{numbersOf, leftBy}
 use Rattle.format.specs.Rows.{firstRow, headerRows, missionRows, targetRows, targetsRows, dwellRows, jobRows, textRows, keptRows, bodyRows, segmentRows}
 use Rattle.format.specs.New.{newRows, firstNew}
 use Rattle.format.specs.Reader.{parse, dwellsIn, targetsIn, parsed, sheet, readingAnswer, read}
@@ -23,5 +23,5 @@ use Rattle.demands.specs.Counts.{count}
 use Rattle.demands.specs.Trials.{mixed, trials}
 
 pub all-trials : Holds trials
-unfolding trials mixed be bytes twos signed signedBytes pad over total field value signedValue replaced isTextByte isText textFault announced announcedLength fullFields announcedFields dwellSize isRequired isReserved isIn anySet isGap isGapIn isDoubled isFault firstFrom lowestFault newInMask isPlaced isLatitude reduced longitudeSum nearest rounded latitudeMicro fullCircle longitudeMicro isP1 version typeAt sizeAt bodyAt segmentBytes isKnown maskOf dwellFields targetCount targetsOf targetFields latitude longitude isOlder shown mark isNewMode bodyLength recordOf headerRecord dwellRecord targetRecord targetRecords pieceRecord pieceRecords pieceCount dwellRecords textRecords opaqueRecords jobRecords segmentRecords packetRecords recordBytes leftBy firstRow headerRows missionRows targetRows targetsRows dwellRows jobRows textRows keptRows bodyRows segmentRows newRows firstNew parse dwellsIn targetsIn parsed sheet readingAnswer read list noHeader isHeaded calledFor isComplete typeOf given maskAfter regroup segmentsBytes spellRecords spell isSame readsBack sheetRows writerRows writingAnswer write packet printed northmost withheldRecord withheldRecords withheldSheet filledRecord filledRecords filledIn count
+unfolding trials mixed be bytes twos signed signedBytes pad over total field value signedValue replaced isTextByte isText textFault announced announcedLength fullFields announcedFields dwellSize isRequired isReserved isIn anySet isGap isGapIn isDoubled isFault firstFrom lowestFault newInMask isPlaced isLatitude reduced longitudeSum nearest rounded latitudeMicro fullCircle longitudeMicro isP1 version typeAt sizeAt bodyAt segmentBytes isKnown maskOf dwellFields targetCount targetsOf targetFields areaOf latitude longitude isOlder shown mark isNewMode bodyLength recordOf headerRecord dwellRecord targetRecord targetRecords pieceRecord pieceRecords pieceCount dwellRecords textRecords opaqueRecords jobRecords segmentRecords packetRecords recordBytes numbersOf leftBy firstRow headerRows missionRows targetRows targetsRows dwellRows jobRows textRows keptRows bodyRows segmentRows newRows firstNew parse dwellsIn targetsIn parsed sheet readingAnswer read list noHeader isHeaded calledFor isComplete typeOf given maskAfter regroup segmentsBytes spellRecords spell isSame readsBack sheetRows writerRows writingAnswer write packet printed northmost withheldRecord withheldRecords withheldSheet filledRecord filledRecords filledIn count
 all-trials = (refl, (refl, (refl, (refl, (refl, (refl, (refl, (refl, (refl, tt)))))))))

@@ -3,17 +3,17 @@
 use Prim.Native.Nat.{ℕ, zero, suc, _+_, _≤_, _<_}
 use native.Mathlib.Nat.{zero-add, add-suc, suc-add, not-suc-le-zero}
 use native.Mathlib.Omega.{arith}
-use mathlib.Core.Path.{_≡_, refl, sym, ap, subst, _∙_}
+use mathlib.Core.Path.{_≡_, refl, sym, subst, _∙_}
 use mathlib.Core.List.{List, [], _∷_}
 use lib.ListN.{length, drop, length-drop}
 use Rattle.format.specs.declared.Reading.{Reading}
 use Rattle.format.specs.declared.Check.{Check}
 use Rattle.format.specs.declared.Check.the-variants.{Passed, Failed}
-use Rattle.format.specs.Packet.{Segment, sizeAt, typeAt, bodyAt}
+use Rattle.format.specs.Packet.{sizeAt, typeAt, bodyAt}
 use Rattle.format.specs.Rows.{firstRow, segmentRows}
 use Rattle.format.specs.Reader.{Parsed, onward, parse}
-use Rattle.format.proofs.Rows.{passed-not-failed, segment-passes}
-use Rattle.demands.specs.First.{Passes, none, more}
+use Rattle.format.proofs.Rows.{segment-passes}
+use Rattle.demands.specs.First.{Passes, more}
 
 -- where a walk that passed k segments stops: at the packet's end, or at a segment with its first row
 abbrev pub Stopped : Reading → List ℕ → ℕ → Check → Type 0

@@ -20,7 +20,7 @@ use Rattle.format.specs.declared.Answer.{Answer}
 use Rattle.format.specs.declared.Answer.the-variants.{Accepted, Refused}
 use Rattle.format.specs.Edition.{isOlder}
 use Rattle.format.specs.Sheet.{bodyLength, recordOf, headerRecord, packetRecords}
-use Rattle.format.specs.Answer.{Outcome, leftBy}
+use Rattle.format.specs.Answer.{Outcome, outcome, leftBy}
 use Rattle.format.specs.Rows.{firstRow}
 use Rattle.format.specs.Reader.{parsed, readingOf, dwellsIn, targetsIn, sheet, readingAnswer, read}
 use Rattle.format.specs.Writer.{isHeaded, calledFor, isComplete, Regrouped, segmentsBytes, spellRecords, spell, isAccepted, isSame, readsBack, sheetRows, writerRows, writingAnswer, write}
@@ -110,9 +110,9 @@ module _ (x buffer : List ℕ) where
   written c = elim c [ Passed ↦ countsOf (spell x) (length (spell x)) | Failed number field ↦ Refused number 0 0 ]
 
   -- where none applies, the spelt packet is laid into the buffer
-  written-when : firstRow (writerRows x (length buffer)) ≡ Passed → write x buffer ≡ record { answer = countsOf (spell x) (length (spell x)); left = over (spell x) buffer }
+  written-when : firstRow (writerRows x (length buffer)) ≡ Passed → write x buffer ≡ outcome (countsOf (spell x) (length (spell x))) (over (spell x) buffer)
   unfolding write writingAnswer leftBy
-  written-when e = ap (λ (c : Check). record { answer = written c; left = leftBy (written c) (spell x) buffer }) e
+  written-when e = ap (λ (c : Check). outcome (written c) (leftBy (written c) (spell x) buffer)) e
 
   -- and where one does, the sheet is not accepted
   written-only : (s d t n : ℕ) → write x buffer .answer ≡ Accepted s d t n → firstRow (writerRows x (length buffer)) ≡ Passed
@@ -152,7 +152,7 @@ counted edition l lent s d t n e = go _ _ _ _ (read-only edition l lent s d t n 
 
 -- the sheet of an accepted packet is written as that packet
 sheet-written : (l lent buffer : List ℕ) (s d t n : ℕ) → Bytes l → read 3 l lent .answer ≡ Accepted s d t n → length l ≤ length buffer
-    → write (take n (read 3 l lent .left)) buffer ≡ record { answer = Accepted s d t (length l); left = over l buffer }
+    → write (take n (read 3 l lent .left)) buffer ≡ outcome (Accepted s d t (length l)) (over l buffer)
 unfolding over
 sheet-written l lent buffer s d t n b e h =
     let a = read-only 3 l lent s d t n e in
@@ -161,13 +161,13 @@ sheet-written l lent buffer s d t n b e h =
     ∙ take-at (sheet 3 l) (drop (length (sheet 3 l)) lent) n (same-length _ _ _ _ s d t n (a .1)) in
     rw cut
     (written-when (sheet 3 l) buffer (sheet-passes l (length lent) (a .0) (length buffer) b h)
-    ∙ ap (λ (p : List ℕ). record { answer = countsOf p (length p); left = over p buffer }) (spell-sheet l (length lent) (a .0) b)
-    ∙ ap (λ (c : Answer). record { answer = c; left = over l buffer }) (same-counts _ _ _ _ s d t n (length l) (a .1)))
+    ∙ ap (λ (p : List ℕ). outcome (countsOf p (length p)) (over p buffer)) (spell-sheet l (length lent) (a .0) b)
+    ∙ ap (λ (c : Answer). outcome c (over l buffer)) (same-counts _ _ _ _ s d t n (length l) (a .1)))
 
 -- a sheet that is written is the one of the packet that it is written as
 only-written : (x buffer : List ℕ) (s d t n : ℕ) → Bytes x → write x buffer .answer ≡ Accepted s d t n
     → (l : List ℕ) × Bytes l × (length l ≡ n) × (write x buffer .left ≡ over l buffer)
-    × ((lent : List ℕ) → length lent ≡ length x → read 3 l lent ≡ record { answer = Accepted s d t (length x); left = x })
+    × ((lent : List ℕ) → length lent ≡ length x → read 3 l lent ≡ outcome (Accepted s d t (length x)) x)
 unfolding over
 only-written x buffer s d t n b e =
     let p = written-only x buffer s d t n e in
@@ -180,8 +180,8 @@ only-written x buffer s d t n b e =
       ap (λ (o : Outcome). o .left) w,
       λ lent h.
           read-when 3 (spell x) lent (subst (Acceptable 3 (spell x)) (sym h) (r .0))
-          ∙ ap (λ (y : List ℕ). record { answer = countsOf (spell x) (length y); left = over y lent }) (r .1)
-          ∙ ap₂ (λ (c : Answer) (y : List ℕ). record { answer = c; left = y }) (same-counts _ _ _ _ s d t n (length x) is)
+          ∙ ap (λ (y : List ℕ). outcome (countsOf (spell x) (length y)) (over y lent)) (r .1)
+          ∙ ap₂ (λ (c : Answer) (y : List ℕ). outcome c y) (same-counts _ _ _ _ s d t n (length x) is)
           (ap (λ (y : List ℕ). x ++ y) (drop-of-length-le lent {i = length x} (omega arith)) ∙ append-nil x),
     )
 

@@ -8,12 +8,10 @@ use mathlib.Core.List.{List}
 use lib.ListN.{length, take}
 use Rattle.octets.specs.Octets.{Bytes}
 use Rattle.octets.specs.Layout.{over}
-use Rattle.format.specs.declared.Check.{Check}
 use Rattle.format.specs.declared.Check.the-variants.{Passed, Failed}
-use Rattle.format.specs.declared.Answer.{Answer}
 use Rattle.format.specs.declared.Answer.the-variants.{Accepted, Refused}
 use Rattle.format.specs.Packet.{version}
-use Rattle.format.specs.Answer.{Outcome}
+use Rattle.format.specs.Answer.{Outcome, outcome}
 use Rattle.format.specs.Rows.{firstRow}
 use Rattle.format.specs.New.{New, nothing, found, firstNew}
 use Rattle.format.specs.Reader.{parsed, sheet, read}
@@ -24,11 +22,11 @@ use Rattle.demands.specs.Counts.{count, isKind, isLeader}
 
 -- an accepted call, and what it leaves
 abbrev pub accepted : ℕ → ℕ → ℕ → ℕ → List ℕ → Outcome
-accepted segments dwells targets n left = record { answer = Accepted segments dwells targets n; left = left }
+accepted segments dwells targets n left = outcome (Accepted segments dwells targets n) left
 
 -- a refused call, and what it leaves
 abbrev pub refused : ℕ → ℕ → ℕ → List ℕ → Outcome
-refused number segment field left = record { answer = Refused number segment field; left = left }
+refused number segment field left = outcome (Refused number segment field) left
 
 -- ---- Demand 1. A packet "is either set out on a sheet, when no row of document 01 applies, or turned down with the number, segment
 -- and field of the first row that does. A packet turned down leaves the lent sheet as it was."
@@ -59,6 +57,7 @@ pub record Counted (x : List ℕ) (segments dwells targets n : ℕ) : Type 0 whe
   pub targets-are : targets ≡ count (isKind 4) (listed x .records)
   pub length-is : n ≡ length x
 
+-- demand 2 itself: the counts, and "exactly" in both directions
 pub record Demand2 : Type 0 where
   pub counts : (edition : ℕ) (l lent : List ℕ) (s d t n : ℕ) → read edition l lent .answer ≡ Accepted s d t n
       → Counted (sheet edition l) s d t n

@@ -6,7 +6,6 @@ use mathlib.Core.Path.{_≡_}
 use mathlib.Core.List.{List, []}
 use lib.ListN.{length, drop}
 use Rattle.format.specs.declared.Reading.{Reading}
-use Rattle.format.specs.declared.Check.{Check}
 use Rattle.format.specs.declared.Check.the-variants.{Passed, Failed}
 use Rattle.format.specs.Packet.{sizeAt}
 use Rattle.format.specs.Rows.{firstRow, headerRows, segmentRows}

@@ -3,13 +3,12 @@
 use Prim.Native.Nat.{ℕ}
 use mathlib.Core.Path.{_≡_}
 use mathlib.Core.List.{List, [], _∷_, _++_}
-use lib.ListN.{length}
 use Rattle.octets.specs.Octets.{bytes}
 use Rattle.format.specs.declared.Answer.the-variants.{Accepted}
 use Rattle.format.specs.Samples.{zeros, version3, dwell, d2to9, d24to27, mission, job, freeText, segment}
 use Rattle.format.specs.New.{nothing, found, firstNew}
 use Rattle.format.specs.Reader.{parsed, sheet, read}
-use Rattle.format.specs.Writer.{listed, write}
+use Rattle.format.specs.Writer.{listed}
 use Rattle.demands.specs.Filled.{withheldSheet, filledIn}
 use Rattle.demands.specs.Counts.{count, isKind, isLeader}
 

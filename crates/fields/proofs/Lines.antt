@@ -2,20 +2,18 @@
 -- Assumes nothing.
 use mathlib.Core.Path.{_≡_, refl, sym, ap, ap₂, _∙_}
 use mathlib.Core.Bool.{Bool, true, false, cond, not, _&&_, true≢false}
-use mathlib.Core.List.{List, [], _∷_, _++_, append-nil, append-assoc}
-use Prim.Native.Nat.{ℕ, zero, suc, _+_, _≤_, _<_}
-use native.Mathlib.Nat.{add-zero, add-suc, suc-add, zero-add, add-assoc}
+use mathlib.Core.List.{List, [], _∷_, _++_, append-nil}
+use Prim.Native.Nat.{ℕ, zero, suc, _+_, _≤_}
+use native.Mathlib.Nat.{add-zero, suc-add, zero-add, add-assoc}
 use native.Mathlib.Omega.{arith}
-use lib.Dec.{eqb}
 use lib.Bits.{bitAnd}
-use lib.ListN.{length, getD, take, drop, length-drop, length-append}
-use lib.Seq.{sets, drop-cons, drop-drop, getD-drop, take-add, length-take-le}
-use Rattle.octets.specs.Octets.{be, bytes, Bytes}
+use lib.ListN.{length, take, drop, length-drop}
+use lib.Seq.{sets, drop-drop, take-add}
 use Rattle.octets.specs.Layout.{pad, total}
-use Rattle.octets.proofs.Laws.{bytes-be, then}
-use Rattle.octets.proofs.Layouts.{length-pad, pad-take}
-use Rattle.mask.specs.Fields.{announced, taken, announcedLength, fullFields}
-use Rattle.mask.proofs.FullWidth.{length-full}
+use Rattle.octets.proofs.Laws.{then}
+use Rattle.octets.proofs.Layouts.{pad-take}
+use Rattle.mask.specs.Fields.{announced, announcedLength, fullFields}
+use Rattle.mask.proofs.FullWidth.{length-full, announced-append, full-append}
 use Rattle.mask.proofs.Bit.{set-and, set-none}
 use Rattle.fields.specs.Together.{allSet, noneSet}
 
@@ -24,23 +22,6 @@ use Rattle.fields.specs.Together.{allSet, noneSet}
 -- the fields n, n + 1, .. of the widths ws were laid out from p of s to q of l: the next is at r, and l has become a
 abbrev pub Line : ℕ → ℕ → List ℕ → List ℕ → List ℕ → ℕ → ℕ → ℕ → List ℕ → Type 0
 Line mask n ws s l p q r a = (r ≡ p + announcedLength mask n ws) × (a ≡ sets l q (fullFields mask n ws (drop p s)))
-
-announced-append : (mask n : ℕ) (us vs : List ℕ) → announcedLength mask n (us ++ vs) ≡ announcedLength mask n us + announcedLength mask (n + length us) vs
-unfolding announcedLength
-announced-append mask n [] vs = rw (zero-add, add-zero)
-announced-append mask n (u ∷ us) vs =
-    ap (λ (m : ℕ). taken mask n u + m) (announced-append mask (suc n) us vs ∙ ap (λ (m : ℕ). announcedLength mask (suc n) us + announcedLength mask m vs) (suc-add n (length us) ∙ sym (add-suc n (length us))))
-    ∙ omega arith
-
-full-append : (mask n : ℕ) (us vs b : List ℕ) → fullFields mask n (us ++ vs) b ≡ fullFields mask n us b ++ fullFields mask (n + length us) vs (drop (announcedLength mask n us) b)
-unfolding fullFields announcedLength
-full-append mask n [] vs b = ap (λ (m : ℕ). fullFields mask m vs b) (sym (add-zero n))
-full-append mask n (u ∷ us) vs b =
-    ap (λ (t : List ℕ). pad u (cond (announced mask n) b []) ++ t)
-    (full-append mask (suc n) us vs (drop (taken mask n u) b)
-    ∙ ap₂ (λ (m : ℕ) (t : List ℕ). fullFields mask (suc n) us (drop (taken mask n u) b) ++ fullFields mask m vs t)
-    (suc-add n (length us) ∙ sym (add-suc n (length us))) (drop-drop (announcedLength mask (suc n) us) (taken mask n u) b))
-    ∙ sym (append-assoc (pad u (cond (announced mask n) b [])) (fullFields mask (suc n) us (drop (taken mask n u) b)) _)
 
 -- a line of the widths us, then one of the widths vs where it ends, is a line of both
 pub next : (mask n : ℕ) (us vs s l : List ℕ) (p q m k : ℕ) {r t : ℕ} {a b : List ℕ} → m ≡ n + length us → k ≡ q + total us

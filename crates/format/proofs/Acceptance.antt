@@ -14,7 +14,7 @@ use Rattle.format.specs.declared.Check.{Check}
 use Rattle.format.specs.declared.Check.the-variants.{Passed, Failed}
 use Rattle.format.specs.declared.Answer.{Answer}
 use Rattle.format.specs.declared.Answer.the-variants.{Accepted, Refused}
-use Rattle.format.specs.Answer.{leftBy}
+use Rattle.format.specs.Answer.{outcome, leftBy}
 use Rattle.format.specs.Rows.{firstRow, headerRows}
 use Rattle.format.specs.Reader.{parsed, sheet, dwellsIn, targetsIn, segmentsAnswer, readingAnswer, read}
 use Rattle.format.proofs.Rows.{first-passes, neither}
@@ -88,10 +88,10 @@ header-sized edition l e =
 -- ---- what an accepted reading leaves
 
 -- the sheet is laid over what was lent
-pub read-when : (edition : ℕ) (l lent : List ℕ) → Acceptable edition l (length lent) → read edition l lent ≡ record { answer = answerOf edition l; left = over (sheet edition l) lent }
+pub read-when : (edition : ℕ) (l lent : List ℕ) → Acceptable edition l (length lent) → read edition l lent ≡ outcome (answerOf edition l) (over (sheet edition l) lent)
 unfolding read leftBy
 read-when edition l lent a =
-    ap (λ (c : Answer). record { answer = c; left = leftBy c (sheet edition l) lent }) (accepted-when edition l (length lent) a)
+    ap (λ (c : Answer). outcome c (leftBy c (sheet edition l) lent)) (accepted-when edition l (length lent) a)
 
 -- an accepted packet is acceptable
 pub read-only : (edition : ℕ) (l lent : List ℕ) (s d t n : ℕ) → read edition l lent .answer ≡ Accepted s d t n

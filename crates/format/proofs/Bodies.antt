@@ -1,28 +1,28 @@
 -- Bodies to which no row applies: how long they are, and so what stands in the first record of their segment.
 -- Assumes nothing.
-use Prim.Native.Nat.{ℕ, zero, suc, _+_, _*_, _≤_, _<_}
+use Prim.Native.Nat.{ℕ, suc, _+_, _≤_}
 use native.Mathlib.Omega.{arith}
-use mathlib.Core.Path.{_≡_, refl, sym, ap, ap₂, _∙_}
+use mathlib.Core.Path.{_≡_, sym, ap, _∙_}
 use mathlib.Core.Bool.{false, not}
 use mathlib.Core.List.{List, [], _∷_, _++_, append-assoc}
 use borrow.Author.Tests.{ltb-false, eqb-true, not-false}
-use lib.Dec.{ltb, eqb}
-use lib.ListN.{length, getD, take, drop, length-append, List·getD-append}
-use lib.Seq.{length-take-le, getD-take}
-use Rattle.octets.specs.Octets.{be, bytes}
+use lib.Dec.{eqb}
+use lib.ListN.{length, take, drop, length-append}
+use lib.Seq.{length-take-le}
+use Rattle.octets.specs.Octets.{bytes}
 use Rattle.octets.specs.Layout.{pad, total}
 use Rattle.octets.proofs.Laws.{length-bytes}
 use Rattle.octets.proofs.Layouts.{pad-same}
-use Rattle.mask.specs.Fields.{announcedLength, dwellSize, dwellWidths}
+use Rattle.mask.specs.Fields.{dwellWidths}
 use Rattle.mask.proofs.FullWidth.{length-full}
 use Rattle.format.specs.declared.Reading.{Reading}
 use Rattle.format.specs.declared.Check.the-variants.{Passed}
 use Rattle.format.specs.Packet.{s2, jobWidths}
-use Rattle.format.specs.Dwell.{maskOf, dwellFields, targetCount, targetLength}
+use Rattle.format.specs.Dwell.{maskOf, dwellFields}
 use Rattle.format.specs.Edition.{isOlder, shown, mark}
 use Rattle.format.specs.Sheet.{bodyLength, recordOf, dwellRecord}
-use Rattle.format.specs.Rows.{Row, row, firstRow, missionRows, dwellRows, jobRows, textRows, keptRows}
-use Rattle.format.proofs.Rows.{first-passes, neither}
+use Rattle.format.specs.Rows.{Row, row, firstRow, missionRows, jobRows, textRows, keptRows}
+use Rattle.format.proofs.Rows.{first-passes}
 
 -- ---- lengths by the rows 9 and 12
 
@@ -52,18 +52,6 @@ pub text-length : (b : List ℕ) → firstRow (textRows b) ≡ Passed → 20 ≤
 unfolding textRows
 text-length b e =
     let z : 25 ≤ s2 b = ltb-false _ _ (first-passes _ _ e .0) in
-    omega arith
-
--- a dwell's body is the mask, the announced fields and the targets
-pub dwell-length : (r : Reading) (b : List ℕ) → firstRow (dwellRows r b) ≡ Passed
-    → length b ≡ 8 + announcedLength (maskOf b) 2 dwellWidths + targetCount b * targetLength (maskOf b)
-unfolding dwellRows dwellSize
-dwell-length r b e =
-    let nine = first-passes _ _ e in
-    let eleven = first-passes _ _ (nine .1) in
-    let fifteen = first-passes _ _ (eleven .1) in
-    let twelve = first-passes _ _ (fifteen .1) in
-    let z : s2 b ≡ dwellSize (maskOf b) (targetCount b) = eqb-true _ _ (not-false _ (neither (ltb (s2 b) 48) _ (twelve .0) .1)) in
     omega arith
 
 -- ---- records that are full

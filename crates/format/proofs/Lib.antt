@@ -1,7 +1,10 @@
 pub mod Types
 pub mod Rows
 pub mod Records
+pub mod Lengths
 pub mod Segments
+pub mod Turns
 pub mod Bodies
+pub mod Dwells
 pub mod Acceptance
 pub mod Trials

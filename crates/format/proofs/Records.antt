@@ -4,19 +4,20 @@
 use Prim.Native.Nat.{ℕ, zero, suc, _+_, _≤_, _<_}
 use native.Mathlib.Nat.{le-refl, not-suc-le-zero}
 use native.Mathlib.Omega.{arith}
-use mathlib.Core.Path.{_≡_, refl, sym, ap, subst, _∙_}
-use mathlib.Core.Bool.{Bool, true, false, cond}
-use mathlib.Core.List.{List, [], _∷_, _++_, append-assoc}
+use mathlib.Core.Path.{_≡_, refl}
+use mathlib.Core.Bool.{true}
+use mathlib.Core.List.{List, [], _∷_, _++_}
 use borrow.Author.Tests.{lt-ltb, le-leb}
-use lib.Dec.{eqb, lit<}
-use lib.ListN.{length, take, drop, length-append}
+use lib.Dec.{lit<}
+use lib.ListN.{length, length-append}
 use lib.Seq.{take-at, drop-at}
 use Rattle.octets.proofs.Layouts.{length-pad}
 use Rattle.format.specs.declared.Reading.{Reading}
+use Rattle.format.specs.declared.Area.{Area}
 use Rattle.format.specs.Packet.{Segment}
 use Rattle.format.specs.Sheet.{Record, bodyLength, recordOf, headerRecord, dwellRecord, targetRecord, targetRecords, pieceRecord, pieceRecords, missionRecords, dwellRecords, textRecords, opaqueRecords, jobRecords, testRecords, locationRecords, segmentRecords, packetRecords, recordBytes}
 use Rattle.format.specs.Reader.{parsed, readingOf, sheet}
-use Rattle.format.specs.Writer.{Listed, list, listed}
+use Rattle.format.specs.Writer.{list, listed}
 use Rattle.format.proofs.Types.{by-number}
 
 -- a record of a kind, with the body's length that the kind fixes
@@ -37,10 +38,10 @@ pub record-formed : (kind : ℕ) (b : List ℕ) → 0 < bodyLength kind → Form
 unfolding recordOf
 record-formed kind b h = record { kind = h; length-is = length-pad (bodyLength kind) b }
 
-targets-formed : (mask : ℕ) (dwell : List ℕ) (n : ℕ) (t : List ℕ) → AllFormed (targetRecords mask dwell n t)
+targets-formed : (mask : ℕ) (area : Area) (n : ℕ) (t : List ℕ) → AllFormed (targetRecords mask area n t)
 unfolding targetRecords targetRecord bodyLength
-targets-formed mask dwell zero t = tt
-targets-formed mask dwell (suc n) t = (record-formed 4 _ (lit< tt), targets-formed mask dwell n _)
+targets-formed mask area zero t = tt
+targets-formed mask area (suc n) t = (record-formed 4 _ (lit< tt), targets-formed mask area n _)
 
 pieces-formed : (n : ℕ) (b : List ℕ) → AllFormed (pieceRecords n b)
 unfolding pieceRecords pieceRecord bodyLength

@@ -1,18 +1,17 @@
 -- Laws of the first row that applies.
 -- Assumes nothing.
-use Prim.Native.Nat.{ℕ, _≤_, _<_}
+use Prim.Native.Nat.{ℕ, _≤_}
 use native.Mathlib.Omega.{arith}
-use mathlib.Core.Path.{_≡_, refl, sym, ap, _∙_}
-use mathlib.Core.Bool.{Bool, true, false, cond, not, _||_, true≢false}
+use mathlib.Core.Path.{_≡_, refl, sym}
+use mathlib.Core.Bool.{Bool, true, false, cond, _||_, true≢false}
 use mathlib.Core.List.{List, [], _∷_, _++_}
 use borrow.Author.Tests.{ltb-false, not-false}
-use lib.Dec.{ltb, leb, eqb}
 use lib.ListN.{length}
 use Rattle.format.specs.declared.Reading.{Reading}
 use Rattle.format.specs.declared.Check.{Check}
 use Rattle.format.specs.declared.Check.the-variants.{Passed, Failed}
 use Rattle.format.specs.Packet.{typeAt, sizeAt, bodyAt, isKnown}
-use Rattle.format.specs.Rows.{Row, row, firstRow, segmentRows, bodyRows}
+use Rattle.format.specs.Rows.{Row, firstRow, segmentRows, bodyRows}
 
 -- a check does not both pass and fail
 pub passed-not-failed : {A : Type 0} (number field : ℕ) → Passed ≡ Failed number field → A

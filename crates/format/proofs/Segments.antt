@@ -2,7 +2,7 @@
 -- to none of them does a row apply.
 -- Assumes nothing.
 use Prim.Native.Nat.{ℕ, zero, suc, _+_, _-_, _≤_}
-use native.Mathlib.Nat.{not-suc-le-zero}
+use native.Mathlib.Nat.{not-suc-le-zero, zero-add, suc-add}
 use native.Mathlib.Omega.{arith}
 use mathlib.Core.Path.{_≡_, refl, sym, ap, _∙_}
 use mathlib.Core.List.{List, [], _∷_, _++_}
@@ -32,6 +32,20 @@ in-three j k l h =
 pub length-body : (l : List ℕ) → sizeAt l ≤ length l → length (bodyAt l) ≡ sizeAt l - 5
 unfolding bodyAt
 length-body l h = length-drop 5 (take (sizeAt l) l) ∙ ap (λ (n : ℕ). n - 5) (length-take-le (sizeAt l) l h)
+
+-- the k bytes behind the first a
+part-is : (a k : ℕ) (l : List ℕ) → take k (drop a l) ≡ drop a (take (a + k) l)
+part-is zero k l = rw zero-add
+part-is (suc a) zero [] = rw suc-add
+part-is (suc a) (suc k) [] = rw suc-add
+part-is (suc a) k (x ∷ l) = rw suc-add (part-is a k l)
+
+-- the body of a segment is the part of the packet behind its 5 header bytes
+pub body-part : (l : List ℕ) (n : ℕ) → n ≡ sizeAt l → 5 ≤ n → take (n - 5) (drop 5 l) ≡ bodyAt l
+unfolding bodyAt
+body-part l n s h =
+    let e : 5 + (n - 5) ≡ sizeAt l = omega arith in
+    part-is 5 (n - 5) l ∙ ap (λ (m : ℕ). drop 5 (take m l)) e
 
 -- a segment at the front of l, spelt again, is what stood there
 pub segment-back : (l : List ℕ) → 5 ≤ sizeAt l → sizeAt l ≤ length l → Bytes l

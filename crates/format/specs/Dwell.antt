@@ -11,6 +11,7 @@ use Rattle.octets.specs.Octets.{be}
 use Rattle.octets.specs.Layout.{value, signedValue}
 use Rattle.mask.specs.Fields.{announced, announcedLength, fullFields, dwellWidths, targetWidths, d32}
 use Rattle.position.specs.Position.{latitudeSum, longitudeSum}
+use Rattle.format.specs.declared.Area.{Area}
 
 -- "D1 is the 8-byte mask."
 unfoldable pub maskOf : List ℕ → ℕ
@@ -52,12 +53,22 @@ D32 j target = value (d32 1) targetWidths (d32 j) target
 abbrev pub D32± : ℕ → List ℕ → ℤ
 D32± j target = signedValue (d32 1) targetWidths (d32 j) target
 
--- "D10 and D24 are SA32, D11 and D25 BA32, D32.4 and D32.5 signed 16-bit. Latitude is D32.2, else D32.4 × D10 + D24"
-unfoldable pub latitude : ℕ → List ℕ → List ℕ → ℤ
-latitude mask dwell target =
-    cond (announced mask (d32 2)) (D32± 2 target) (latitudeSum (D32± 4 target) (D± 10 dwell) (D± 24 dwell))
+-- "D10 and D24 are SA32, D11 and D25 BA32": what the targets' positions take from their dwell, of D2 to D31 at full widths
+unfoldable pub areaOf : List ℕ → Area
+areaOf dwell =
+    record {
+      d10 = record { 0 = D± 10 dwell };
+      d11 = record { 0 = D 11 dwell };
+      d24 = record { 0 = D± 24 dwell };
+      d25 = record { 0 = D 25 dwell };
+    }
+
+-- "D32.4 and D32.5 signed 16-bit. Latitude is D32.2, else D32.4 × D10 + D24"
+unfoldable pub latitude : ℕ → Area → List ℕ → ℤ
+latitude mask area target =
+    cond (announced mask (d32 2)) (D32± 2 target) (latitudeSum (D32± 4 target) (area .d10 .0) (area .d24 .0))
 
 -- "Longitude is D32.3, else D32.5 × D11 + D25"
-unfoldable pub longitude : ℕ → List ℕ → List ℕ → ℕ
-longitude mask dwell target =
-    cond (announced mask (d32 3)) (D32 3 target) (longitudeSum (D32± 5 target) (D 11 dwell) (D 25 dwell))
+unfoldable pub longitude : ℕ → Area → List ℕ → ℕ
+longitude mask area target =
+    cond (announced mask (d32 3)) (D32 3 target) (longitudeSum (D32± 5 target) (area .d11 .0) (area .d25 .0))

@@ -13,7 +13,7 @@ use Rattle.format.specs.declared.Answer.the-variants.{Accepted, Refused}
 use Rattle.format.specs.Packet.{version, Segment, typeAt, sizeAt, bodyAt}
 use Rattle.format.specs.Dwell.{targetCount}
 use Rattle.format.specs.Sheet.{headerRecord, packetRecords, recordBytes}
-use Rattle.format.specs.Answer.{Outcome, leftBy}
+use Rattle.format.specs.Answer.{Outcome, outcome, leftBy}
 use Rattle.format.specs.Rows.{firstRow, headerRows, segmentRows}
 
 -- "Segments fill the rest; there may be none": the segments up to the packet's end (Passed) or to the first to which a row applies
@@ -76,4 +76,4 @@ readingAnswer edition l lent =
 unfoldable pub read : ℕ → List ℕ → List ℕ → Outcome
 read edition l lent =
     let a = readingAnswer edition l (length lent) in
-    record { answer = a; left = leftBy a (sheet edition l) lent }
+    outcome a (leftBy a (sheet edition l) lent)

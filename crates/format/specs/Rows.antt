@@ -13,10 +13,11 @@ use Rattle.mask.specs.Fields.{dwellSize, d32}
 use Rattle.mask.specs.Mask.{between, lowestFault, newInMask, isPlaced}
 use Rattle.position.specs.Position.{isLatitude}
 use Rattle.format.specs.declared.Reading.{Reading}
+use Rattle.format.specs.declared.Area.{Area}
 use Rattle.format.specs.declared.Check.{Check}
 use Rattle.format.specs.declared.Check.the-variants.{Passed, Failed}
 use Rattle.format.specs.Packet.{headerWidths, headerTexts, P, isP1, typeAt, sizeAt, bodyAt, s2, isKnown, missionWidths, missionTexts, M, jobWidths, jobTexts, J, freeTextWidths, freeTextTexts}
-use Rattle.format.specs.Dwell.{maskOf, dwellFields, D, targetCount, targetsOf, targetLength, targetFields, D32, D32±, latitude}
+use Rattle.format.specs.Dwell.{maskOf, dwellFields, D, targetCount, targetsOf, targetLength, targetFields, D32, D32±, areaOf, latitude}
 use Rattle.format.specs.Edition.{isOlder, isNewMode}
 
 -- a row: its number, the field that it names, and whether it applies
@@ -60,19 +61,19 @@ missionRows b =
 
 -- "in each target D32.6 under −1000, D32.11 above 100, D32.15 above 5000"; "latitude out (35), after that target's 13".
 -- An absent field is zero, and so never at fault.
-unfoldable pub targetRows : ℕ → List ℕ → List ℕ → List Row
-targetRows mask dwell t =
+unfoldable pub targetRows : ℕ → Area → List ℕ → List Row
+targetRows mask area t =
     let f = targetFields mask t in
     row 13 (d32 6) (ltZ (D32± 6 f) (negsuc 999))
     ∷ row 13 (d32 11) (ltb 100 (D32 11 f))
     ∷ row 13 (d32 15) (ltb 5000 (D32 15 f))
-    ∷ row 14 35 (not (isLatitude (latitude mask dwell f)))
+    ∷ row 14 35 (not (isLatitude (latitude mask area f)))
     ∷ []
 
 -- "in each target": those of the n targets from t on
-unfoldable pub targetsRows : ℕ → List ℕ → ℕ → List ℕ → List Row
-targetsRows mask dwell zero t = []
-targetsRows mask dwell (suc n) t = targetRows mask dwell t ++ targetsRows mask dwell n (drop (targetLength mask) t)
+unfoldable pub targetsRows : ℕ → Area → ℕ → List ℕ → List Row
+targetsRows mask area zero t = []
+targetsRows mask area (suc n) t = targetRows mask area t ++ targetsRows mask area n (drop (targetLength mask) t)
 
 -- a dwell's body b: "under 13 for 2"; "lowest mask field at fault"; "reading 1, version 3: D28-30, else D32.18"; "S2 under 48 or not
 -- what mask and D5 give"; "D4 above 1; D5 above 0 with neither position pair"
@@ -84,7 +85,7 @@ dwellRows r b =
     ∷ row 12 0 (ltb (s2 b) 48 || not (eqb (s2 b) (dwellSize (maskOf b) (targetCount b))))
     ∷ row 13 4 (ltb 1 (D 4 (dwellFields b)))
     ∷ row 13 5 (ltb 0 (targetCount b) && not (isPlaced (maskOf b)))
-    ∷ targetsRows (maskOf b) (dwellFields b) (targetCount b) (targetsOf b)
+    ∷ targetsRows (maskOf b) (areaOf (dwellFields b)) (targetCount b) (targetsOf b)
 
 -- a job definition's body b: "S2 wrong for type .. 5", "text, first field", "reading 1, version 3: J14"
 unfoldable pub jobRows : Reading → List ℕ → List Row

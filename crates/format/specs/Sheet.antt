@@ -10,8 +10,9 @@ use Rattle.octets.specs.Layout.{pad}
 use Rattle.mask.specs.Fields.{dwellWidths}
 use Rattle.position.specs.Position.{latitudeMicro, longitudeMicro}
 use Rattle.format.specs.declared.Reading.{Reading}
+use Rattle.format.specs.declared.Area.{Area}
 use Rattle.format.specs.Packet.{Segment, jobWidths}
-use Rattle.format.specs.Dwell.{maskOf, dwellFields, targetCount, targetsOf, targetLength, targetFields, latitude, longitude}
+use Rattle.format.specs.Dwell.{maskOf, dwellFields, targetCount, targetsOf, targetLength, targetFields, areaOf, latitude, longitude}
 use Rattle.format.specs.Edition.{shown, mark}
 
 -- "Records: one byte of kind, then a body whose length the kind fixes." Kind is the document's term for what a record holds.
@@ -41,15 +42,15 @@ unfoldable pub dwellRecord : Reading → List ℕ → Record
 dwellRecord r b = recordOf 3 (take 8 b ++ shown r 2 dwellWidths 27 (dwellFields b) ++ mark r ∷ [])
 
 -- "4 target, 44: D32.1 to D32.18 (absent ones zero), latitude 4 signed, longitude 4."
-unfoldable pub targetRecord : ℕ → List ℕ → List ℕ → Record
-targetRecord mask dwell t =
+unfoldable pub targetRecord : ℕ → Area → List ℕ → Record
+targetRecord mask area t =
     let f = targetFields mask t in
-    recordOf 4 (f ++ signedBytes 4 (latitudeMicro (latitude mask dwell f)) ++ bytes 4 (longitudeMicro (longitude mask dwell f)))
+    recordOf 4 (f ++ signedBytes 4 (latitudeMicro (latitude mask area f)) ++ bytes 4 (longitudeMicro (longitude mask area f)))
 
 -- "Targets follow their dwell": the n targets from t on
-unfoldable pub targetRecords : ℕ → List ℕ → ℕ → List ℕ → List Record
-targetRecords mask dwell zero t = []
-targetRecords mask dwell (suc n) t = targetRecord mask dwell t ∷ targetRecords mask dwell n (drop (targetLength mask) t)
+unfoldable pub targetRecords : ℕ → Area → ℕ → List ℕ → List Record
+targetRecords mask area zero t = []
+targetRecords mask area (suc n) t = targetRecord mask area t ∷ targetRecords mask area n (drop (targetLength mask) t)
 
 -- "6 piece, 33: a count 1 to 32, the bytes, zero filling." "Pieces carry the text or opaque body, all full but the last." Piece is
 -- the document's term for such a part of at most 32 bytes.
@@ -75,7 +76,7 @@ missionRecords b = recordOf 2 b ∷ []
 
 -- a dwell, and its D5 targets
 unfoldable pub dwellRecords : Reading → List ℕ → List Record
-dwellRecords r b = dwellRecord r b ∷ targetRecords (maskOf b) (dwellFields b) (targetCount b) (targetsOf b)
+dwellRecords r b = dwellRecord r b ∷ targetRecords (maskOf b) (areaOf (dwellFields b)) (targetCount b) (targetsOf b)
 
 -- "5 text, 24: F1, F2, the length of F3 in 4."
 unfoldable pub textRecords : List ℕ → List Record

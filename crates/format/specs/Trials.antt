@@ -10,10 +10,10 @@ use Rattle.octets.specs.Octets.{be, signed}
 use Rattle.position.specs.Trials.{marked as positions}
 use Rattle.format.specs.declared.Answer.{Answer}
 use Rattle.format.specs.declared.Answer.the-variants.{Accepted, Refused}
-use Rattle.format.specs.Answer.{Outcome}
+use Rattle.format.specs.Answer.{outcome}
 use Rattle.format.specs.Reader.{readingAnswer, sheet, read}
 use Rattle.format.specs.Writer.{write}
-use Rattle.format.specs.Samples.{zeros, version1, version3, segment, dwell, d2to9, d24to27, empty, printed, northmost, job, mission, freeText}
+use Rattle.format.specs.Samples.{zeros, version1, version3, segment, empty, printed, northmost, job, mission, freeText}
 
 -- the Edition 1 reading with the program's sheet of 65,536 bytes
 abbrev pub read1 : List ℕ → Answer
@@ -53,6 +53,9 @@ printedResults =
     -- row 16 comes where the sheet is one byte too short, and not earlier
     ∷ (readingAnswer 3 printed 166 ≡ Accepted 1 1 1 166)
     ∷ (readingAnswer 3 printed 165 ≡ Refused 16 0 0)
+    -- the seven numbers: number, segment, field, segments, dwells, targets, length
+    ∷ (read 3 printed (zeros 166) .numbers ≡ 0 ∷ 0 ∷ 0 ∷ 1 ∷ 1 ∷ 1 ∷ 166 ∷ [])
+    ∷ (read 3 (northmost 2) (zeros 166) .numbers ≡ 14 ∷ 1 ∷ 35 ∷ 0 ∷ 0 ∷ 0 ∷ 0 ∷ [])
     ∷ []
 
 -- masks and rules go by the version; what is new in a version 3 packet, read as Edition 1, gives 15
@@ -92,9 +95,9 @@ editions =
 -- a packet's sheet is written back as that packet; rows 17 to 20 in their order
 unfoldable pub writing : List (Type 0)
 writing =
-    (write (sheet 3 printed) (zeros 93) ≡ record { answer = Accepted 1 1 1 92; left = printed ++ 0 ∷ [] })
-    ∷ (write (sheet 3 (version3 (freeText 33))) (zeros 90) ≡ record { answer = Accepted 1 0 0 90; left = version3 (freeText 33) })
-    ∷ (write [] (zeros 2) ≡ record { answer = Refused 17 0 0; left = zeros 2 })
+    (write (sheet 3 printed) (zeros 93) ≡ outcome (Accepted 1 1 1 92) (printed ++ 0 ∷ []))
+    ∷ (write (sheet 3 (version3 (freeText 33))) (zeros 90) ≡ outcome (Accepted 1 0 0 90) (version3 (freeText 33)))
+    ∷ (write [] (zeros 2) ≡ outcome (Refused 17 0 0) (zeros 2))
     -- a cut record is 17 though the target before it is missing, which would be 18
     ∷ (write (take 121 (sheet 3 printed) ++ 4 ∷ []) (zeros 2) .answer ≡ Refused 17 0 0)
     ∷ (write (take 121 (sheet 3 printed)) (zeros 92) .answer ≡ Refused 18 0 0)
@@ -104,5 +107,5 @@ writing =
     -- a byte in the filling of a piece is 19; a count of 2 in place of 1 is 18
     ∷ (write (set (sheet 3 (version3 (freeText 33))) 125 1) (zeros 90) .answer ≡ Refused 19 0 0)
     ∷ (write (set (sheet 3 (version3 (freeText 33))) 93 2) (zeros 90) .answer ≡ Refused 18 0 0)
-    ∷ (write (sheet 3 printed) (zeros 91) ≡ record { answer = Refused 20 0 0; left = zeros 91 })
+    ∷ (write (sheet 3 printed) (zeros 91) ≡ outcome (Refused 20 0 0) (zeros 91))
     ∷ []

@@ -7,14 +7,13 @@ use lib.Dec.{ltb, leb, eqb}
 use lib.ListN.{length, getD, take, drop}
 use Rattle.octets.specs.Octets.{be}
 use Rattle.mask.specs.Fields.{announcedFields, dwellWidths, targetWidths, d32}
-use Rattle.format.specs.declared.Check.{Check}
 use Rattle.format.specs.declared.Check.the-variants.{Passed, Failed}
 use Rattle.format.specs.declared.Answer.{Answer}
 use Rattle.format.specs.declared.Answer.the-variants.{Accepted, Refused}
 use Rattle.format.specs.Packet.{Segment, segmentBytes}
 use Rattle.format.specs.Dwell.{D}
 use Rattle.format.specs.Sheet.{Record, bodyLength}
-use Rattle.format.specs.Answer.{Outcome, leftBy}
+use Rattle.format.specs.Answer.{Outcome, outcome, leftBy}
 use Rattle.format.specs.Rows.{Row, row, firstRow}
 use Rattle.format.specs.Reader.{dwellsIn, targetsIn, parsed, sheet, readingAnswer}
 
@@ -181,4 +180,4 @@ writingAnswer x lent =
 unfoldable pub write : List ℕ → List ℕ → Outcome
 write x lent =
     let a = writingAnswer x (length lent) in
-    record { answer = a; left = leftBy a (spell x) lent }
+    outcome a (leftBy a (spell x) lent)

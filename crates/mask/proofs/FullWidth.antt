@@ -1,16 +1,16 @@
 -- Fields at full widths, and the announced ones alone: the lengths of both, and the way there and back.
 -- Over every mask, first field and table of widths. Assumes nothing.
-use mathlib.Core.Path.{_≡_, refl, ap, _∙_}
+use mathlib.Core.Path.{_≡_, refl, sym, ap, ap₂, _∙_}
 use mathlib.Core.Bool.{Bool, true, false, cond}
 use mathlib.Core.List.{List, [], _∷_, _++_, append-assoc}
 use Prim.Native.Nat.{ℕ, suc, _+_, _≤_}
-use native.Mathlib.Nat.{zero-add}
+use native.Mathlib.Nat.{add-zero, add-suc, suc-add, zero-add}
 use native.Mathlib.Omega.{arith}
 use lib.ListN.{length, take, drop, length-append, length-drop}
-use lib.Seq.{length-take-le, take-at, drop-at, take-add}
+use lib.Seq.{length-take-le, take-at, drop-at, take-add, drop-drop}
 use Rattle.octets.specs.Layout.{pad, total}
 use Rattle.octets.proofs.Layouts.{length-pad, pad-take}
-use Rattle.mask.specs.Fields.{announced, announcedLength, fullFields, announcedFields}
+use Rattle.mask.specs.Fields.{announced, taken, announcedLength, fullFields, announcedFields}
 
 pub length-full : (mask n : ℕ) (ws b : List ℕ) → length (fullFields mask n ws b) ≡ total ws
 unfolding fullFields total
@@ -56,3 +56,21 @@ announced-full mask n (w ∷ ws) b r h = go (announced mask n) h (λ b k. announ
     go false h rest =
         let g : announcedLength mask (suc n) ws ≤ length b = omega arith in
         rw (append-assoc, drop-at (pad w []) (fullFields mask (suc n) ws b ++ r) w (length-pad w []), rest b g, zero-add)
+
+-- of two tables, one after the other: the lengths add up, and the fields of the second follow those of the first
+pub announced-append : (mask n : ℕ) (us vs : List ℕ) → announcedLength mask n (us ++ vs) ≡ announcedLength mask n us + announcedLength mask (n + length us) vs
+unfolding announcedLength
+announced-append mask n [] vs = rw (zero-add, add-zero)
+announced-append mask n (u ∷ us) vs =
+    ap (λ (m : ℕ). taken mask n u + m) (announced-append mask (suc n) us vs ∙ ap (λ (m : ℕ). announcedLength mask (suc n) us + announcedLength mask m vs) (suc-add n (length us) ∙ sym (add-suc n (length us))))
+    ∙ omega arith
+
+pub full-append : (mask n : ℕ) (us vs b : List ℕ) → fullFields mask n (us ++ vs) b ≡ fullFields mask n us b ++ fullFields mask (n + length us) vs (drop (announcedLength mask n us) b)
+unfolding fullFields announcedLength
+full-append mask n [] vs b = ap (λ (m : ℕ). fullFields mask m vs b) (sym (add-zero n))
+full-append mask n (u ∷ us) vs b =
+    ap (λ (t : List ℕ). pad u (cond (announced mask n) b []) ++ t)
+    (full-append mask (suc n) us vs (drop (taken mask n u) b)
+    ∙ ap₂ (λ (m : ℕ) (t : List ℕ). fullFields mask (suc n) us (drop (taken mask n u) b) ++ fullFields mask m vs t)
+    (suc-add n (length us) ∙ sym (add-suc n (length us))) (drop-drop (announcedLength mask (suc n) us) (taken mask n u) b))
+    ∙ sym (append-assoc (pad u (cond (announced mask n) b [])) (fullFields mask (suc n) us (drop (taken mask n u) b)) _)

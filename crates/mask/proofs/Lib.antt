@@ -1,9 +1,11 @@
 pub mod Bit
 pub mod Lowest
+pub mod Unfaulted
 pub mod Sets
 pub mod Words
 pub mod Sentence
 pub mod New
 pub mod Sum
 pub mod FullWidth
+pub mod Places
 pub mod Trials

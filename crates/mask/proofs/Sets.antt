@@ -37,7 +37,8 @@ both-right : (a b : Bool) → T (a && b) → T b
 both-right true b t = t
 both-right false b t = absurd t
 
-from-all : (f : ℕ → Bool) (k n : ℕ) → T (all-from f k n) → (m : ℕ) → n ≤ m → m < n + k → T (f m)
+-- so it does at each of them
+pub from-all : (f : ℕ → Bool) (k n : ℕ) → T (all-from f k n) → (m : ℕ) → n ≤ m → m < n + k → T (f m)
 from-all f zero n t m lo hi = absurd (no lo hi)
   where
     no : n ≤ m → m < n + 0 → ⊥
@@ -49,7 +50,8 @@ from-all f (suc k) n t m lo hi =
     go (inl e) rest = subst (λ (x : ℕ). T (f x)) e (both-left (f n) (all-from f k (suc n)) t)
     go (inr l) rest = rest l
 
-beq-eq : (a b : Bool) → T (Bool·beq a b) → a ≡ b
+-- equal by the test
+pub beq-eq : (a b : Bool) → T (Bool·beq a b) → a ≡ b
 beq-eq true true t = refl
 beq-eq true false t = absurd t
 beq-eq false true t = absurd t

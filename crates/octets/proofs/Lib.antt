@@ -2,3 +2,4 @@ pub mod Laws
 pub mod Signed
 pub mod Layouts
 pub mod ByteLists
+pub mod Parts

@@ -1,0 +1,3 @@
+pub mod Dwells
+pub mod Targets
+pub mod Taken

@@ -1,0 +1,111 @@
+-- The record of a target, laid out by stores, and the loop over targets.
+-- Assumes nothing.
+use mathlib.Core.Path.{_≡_, refl, sym, ap, _∙_}
+use mathlib.Core.Bool.{true}
+use mathlib.Core.List.{List, [], _∷_, _++_}
+use Prim.Native.Nat.{ℕ, suc, _+_, _-_}
+use native.Mathlib.Omega.{arith}
+use borrow.Author.Tests.{not-false}
+use lib.IntN.{ℤ, pos, negsuc}
+use lib.ListN.{length, drop, length-append}
+use lib.Seq.{sets, drop-drop}
+use borrow.Rule.Slice.PartMut.{midOf}
+use Rattle.octets.specs.Octets.{bytes, signedBytes}
+use Rattle.octets.specs.Layout.{total}
+use Rattle.octets.proofs.Laws.{then, length-bytes}
+use Rattle.octets.proofs.Parts.{tail-is}
+use Rattle.mask.specs.Fields.{announcedLength, fullFields, targetWidths}
+use Rattle.mask.proofs.FullWidth.{length-full}
+use Rattle.position.specs.Position.{isLatitude, latitudeMicro, longitudeMicro}
+use Rattle.format.specs.declared.Area.{Area}
+use Rattle.format.specs.declared.Check.{Check}
+use Rattle.format.specs.declared.Check.the-variants.{Passed, Failed}
+use Rattle.format.specs.Dwell.{targetFields, latitude, longitude}
+use Rattle.format.specs.Sheet.{bodyLength, targetRecord, targetRecords, recordBytes}
+use Rattle.format.specs.Rows.{firstRow, targetRows, targetsRows}
+use Rattle.format.proofs.Rows.{first-passes, first-append, orElse, passed-not-failed}
+use Rattle.format.proofs.Lengths.{length-one}
+use Rattle.records.proofs.Laid.{record-laid, full-body, records-next}
+
+-- a signed number has the length of its bytes
+length-signed : (k : ℕ) (z : ℤ) → length (signedBytes k z) ≡ k
+unfolding signedBytes
+length-signed k (pos n) = length-bytes k _
+length-signed k (negsuc n) = length-bytes k _
+
+-- the fields of a target at full widths
+length-target : (mask : ℕ) (t : List ℕ) → length (targetFields mask t) ≡ 36
+unfolding targetFields total
+length-target mask t = length-full mask 32 targetWidths t
+
+-- the record of a target: its fields, its latitude x and its longitude y
+pub target-laid : (mask : ℕ) (area : Area) (t l : List ℕ) (x : ℤ) (y : ℕ) {i j k w : List ℕ}
+    → x ≡ latitudeMicro (latitude mask area (targetFields mask t)) → y ≡ longitudeMicro (longitude mask area (targetFields mask t))
+    → i ≡ sets l 0 (4 ∷ []) → j ≡ sets i 1 (fullFields mask 32 targetWidths (drop 0 t)) → k ≡ sets j 37 (signedBytes 4 x) → w ≡ sets k 41 (bytes 4 y)
+    → w ≡ sets l 0 (recordBytes (targetRecord mask area t ∷ []))
+unfolding targetRecord targetFields bodyLength
+target-laid mask area t l x y {i} {j} {k} hx hy hi hj hk hw =
+    let f = targetFields mask t in
+    let a = latitudeMicro (latitude mask area f) in
+    let b = longitudeMicro (longitude mask area f) in
+    let v = f ++ signedBytes 4 a ++ bytes 4 b in
+    let n : length (f ++ signedBytes 4 a) ≡ 40 = length-append f (signedBytes 4 a) ∙ omega (arith, length-target mask t, length-signed 4 a) in
+    let m : length v ≡ 44 = length-append (f ++ signedBytes 4 a) (bytes 4 b) ∙ omega (arith, length-bytes 4 b) in
+    let k' = hk ∙ ap (λ (z : ℤ). sets j 37 (signedBytes 4 z)) hx in
+    let w' = hw ∙ ap (λ (z : ℕ). sets k 41 (bytes 4 z)) hy in
+    record-laid 4 v v l (full-body 4 v m) hi
+    (then (f ++ signedBytes 4 a) (bytes 4 b) i 1 40 (then f (signedBytes 4 a) i 1 36 hj (length-target mask t) k') n w')
+
+-- ---- targets in a row
+
+module _ (mask : ℕ) (area : Area) where
+  -- the next target of several
+  target-step : (n : ℕ) (t : List ℕ) → targetRecords mask area (suc n) t ≡ targetRecord mask area t ∷ targetRecords mask area n (drop (announcedLength mask 32 targetWidths) t)
+  unfolding targetRecords
+  target-step n t = refl
+
+  -- the length of a target's record
+  length-of-target : (t : List ℕ) → length (recordBytes (targetRecord mask area t ∷ [])) ≡ 45
+  unfolding targetRecord bodyLength
+  length-of-target t = length-one 4 _
+
+  -- the loop: once the target at p is stored at q, what is left to store still gives all of them
+  pub targets-next : (n k p q each : ℕ) (t o all : List ℕ) {m : List ℕ}
+      → n ≡ suc k → each ≡ announcedLength mask 32 targetWidths → m ≡ sets o q (recordBytes (targetRecord mask area (drop p t) ∷ [])) → sets o q (recordBytes (targetRecords mask area n (drop p t))) ≡ all
+      → sets m (q + 45) (recordBytes (targetRecords mask area k (drop (p + each) t))) ≡ all
+  targets-next n k p q each t o all {m} hn he hm e =
+      ap (λ (u : ℕ). sets m (q + 45) (recordBytes (targetRecords mask area k (drop (p + u) t)))) he
+      ∙ records-next (targetRecord mask area) (targetRecords mask area) (announcedLength mask 32 targetWidths) 45 target-step length-of-target n k p q t o all hn hm e
+
+  -- at the end none are left to store
+  pub targets-last : (n p q : ℕ) (t o all : List ℕ) → n ≡ 0 → sets o q (recordBytes (targetRecords mask area n (drop p t))) ≡ all → o ≡ all
+  unfolding targetRecords recordBytes
+  targets-last n p q t o all hn e = rw hn at e
+
+  -- where no row applies to several targets, none applies to the first, and none to those behind it
+  rows-split : (n : ℕ) (t : List ℕ) → firstRow (targetsRows mask area (suc n) t) ≡ Passed → (firstRow (targetRows mask area t) ≡ Passed) × (firstRow (targetsRows mask area n (drop (announcedLength mask 32 targetWidths) t)) ≡ Passed)
+  unfolding targetsRows
+  rows-split n t e = go (firstRow (targetRows mask area t)) refl (sym (first-append (targetRows mask area t) (targetsRows mask area n (drop (announcedLength mask 32 targetWidths) t))) ∙ e)
+    where
+      go : (c : Check) → firstRow (targetRows mask area t) ≡ c → orElse c (firstRow (targetsRows mask area n (drop (announcedLength mask 32 targetWidths) t))) ≡ Passed
+          → (firstRow (targetRows mask area t) ≡ Passed) × (firstRow (targetsRows mask area n (drop (announcedLength mask 32 targetWidths) t)) ≡ Passed)
+      go Passed h e = (h, e)
+      go (Failed number field) h e = passed-not-failed number field (sym e)
+
+  -- a target to which no row applies has a latitude
+  is-placed : (t : List ℕ) → firstRow (targetRows mask area t) ≡ Passed → isLatitude (latitude mask area (targetFields mask t)) ≡ true
+  unfolding targetRows
+  is-placed t e =
+      let one = first-passes _ _ e in
+      let two = first-passes _ _ (one .1) in
+      let three = first-passes _ _ (two .1) in
+      let four = first-passes _ _ (three .1) in
+      not-false _ (four .0)
+
+  -- so at a turn of the loop, where n targets are left from p on
+  pub turn-placed : (n k p : ℕ) (t : List ℕ) → n ≡ suc k → firstRow (targetsRows mask area n (drop p t)) ≡ Passed → isLatitude (latitude mask area (targetFields mask (midOf p (length t - p) t))) ≡ true
+  turn-placed n k p t hn e = ap (λ (x : List ℕ). isLatitude (latitude mask area (targetFields mask x))) (tail-is p t) ∙ is-placed (drop p t) (rows-split k (drop p t) (rw hn at e) .0)
+
+  -- and behind it
+  pub rows-next : (n k p each : ℕ) (t : List ℕ) → n ≡ suc k → each ≡ announcedLength mask 32 targetWidths → firstRow (targetsRows mask area n (drop p t)) ≡ Passed → firstRow (targetsRows mask area k (drop (p + each) t)) ≡ Passed
+  rows-next n k p each t hn he e = rw (he, ← drop-drop (announcedLength mask 32 targetWidths) p t) (rows-split k (drop p t) (rw hn at e) .1)

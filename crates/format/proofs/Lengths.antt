@@ -1,0 +1,94 @@
+-- How many bytes the records of each segment take on the sheet.
+-- Assumes nothing.
+use Prim.Native.Nat.{ℕ, zero, suc, _+_, _-_, _*_}
+use native.Mathlib.Omega.{arith}
+use mathlib.Core.Path.{_≡_, refl, sym, ap, _∙_}
+use mathlib.Core.Bool.{cond}
+use mathlib.Core.List.{List, [], _∷_, _++_, append-assoc}
+use lib.Dec.{eqb}
+use lib.ListN.{length, drop, length-append, length-drop}
+use Rattle.octets.proofs.Layouts.{length-pad}
+use Rattle.format.specs.declared.Reading.{Reading}
+use Rattle.format.specs.declared.Area.{Area}
+use Rattle.format.specs.Dwell.{maskOf, dwellFields, targetCount, targetsOf, targetLength, areaOf}
+use Rattle.format.specs.Sheet.{Record, bodyLength, recordOf, dwellRecord, targetRecord, targetRecords, pieceRecord, pieceRecords, pieceCount, dwellRecords, textRecords, opaqueRecords, jobRecords, segmentRecords, recordBytes}
+use Rattle.format.proofs.Types.{by-number}
+
+-- the bytes of two runs of records, one after the other
+pub bytes-append : (rs qs : List Record) → recordBytes (rs ++ qs) ≡ recordBytes rs ++ recordBytes qs
+unfolding recordBytes
+bytes-append [] qs = refl
+bytes-append (r ∷ rs) qs = ap (λ (x : List ℕ). r .kind ∷ x) (ap (λ (x : List ℕ). r .body ++ x) (bytes-append rs qs) ∙ sym (append-assoc (r .body) (recordBytes rs) (recordBytes qs)))
+
+-- a record before others takes its kind and the body that the kind fixes
+pub length-record : (kind : ℕ) (b : List ℕ) (rs : List Record) → length (recordBytes (recordOf kind b ∷ rs)) ≡ suc (bodyLength kind + length (recordBytes rs))
+unfolding recordBytes recordOf
+length-record kind b rs = ap suc (length-append (recordOf kind b .body) (recordBytes rs) ∙ ap (λ (n : ℕ). n + length (recordBytes rs)) (length-pad (bodyLength kind) b))
+
+-- so many targets
+pub length-targets : (mask : ℕ) (area : Area) (n : ℕ) (t : List ℕ) → length (recordBytes (targetRecords mask area n t)) ≡ n * 45
+unfolding targetRecords targetRecord recordBytes bodyLength
+length-targets mask area zero t = refl
+length-targets mask area (suc n) t =
+    let u = drop (targetLength mask) t in
+    length-record 4 _ (targetRecords mask area n u) ∙ omega (arith, length-targets mask area n u)
+
+-- so many pieces
+pub length-pieces : (n : ℕ) (b : List ℕ) → length (recordBytes (pieceRecords n b)) ≡ n * 34
+unfolding pieceRecords pieceRecord recordBytes bodyLength
+length-pieces zero b = refl
+length-pieces (suc n) b = length-record 6 _ (pieceRecords n (drop 32 b)) ∙ omega (arith, length-pieces n (drop 32 b))
+
+-- one record by itself
+pub length-one : (kind : ℕ) (b : List ℕ) → length (recordBytes (recordOf kind b ∷ [])) ≡ 1 + bodyLength kind
+unfolding recordBytes
+length-one kind b = omega (arith, length-record kind b [])
+
+-- a dwell and its targets
+dwell : (r : Reading) (b : List ℕ) → length (recordBytes (dwellRecords r b)) ≡ 88 + targetCount b * 45
+unfolding dwellRecords dwellRecord bodyLength
+dwell r b =
+    length-record 3 _ (targetRecords (maskOf b) (areaOf (dwellFields b)) (targetCount b) (targetsOf b))
+    ∙ omega (arith, length-targets (maskOf b) (areaOf (dwellFields b)) (targetCount b) (targetsOf b))
+
+-- a text and its pieces
+text : (b : List ℕ) → length (recordBytes (textRecords b)) ≡ 25 + pieceCount (length b - 20) * 34
+unfolding textRecords bodyLength
+text b =
+    length-record 5 _ (pieceRecords (pieceCount (length (drop 20 b))) (drop 20 b))
+    ∙ omega (arith, length-pieces (pieceCount (length (drop 20 b))) (drop 20 b), ap (λ (n : ℕ). pieceCount n) (length-drop 20 b))
+
+-- an opaque body and its pieces
+opaque : (type : ℕ) (b : List ℕ) → length (recordBytes (opaqueRecords type b)) ≡ 6 + pieceCount (length b) * 34
+unfolding opaqueRecords bodyLength
+opaque type b = length-record 7 _ (pieceRecords (pieceCount (length b)) b) ∙ omega (arith, length-pieces (pieceCount (length b)) b)
+
+-- a job definition
+job : (r : Reading) (b : List ℕ) → length (recordBytes (jobRecords r b)) ≡ 70
+unfolding jobRecords bodyLength
+job r b = length-one 8 _
+
+-- the bytes of a segment's records, by its type
+abbrev pub recordsOf : ℕ → List ℕ → ℕ
+recordsOf type b =
+    cond (eqb type 1) 40
+    (cond (eqb type 2) (88 + targetCount b * 45)
+    (cond (eqb type 5) 70
+    (cond (eqb type 6) (25 + pieceCount (length b - 20) * 34)
+    (cond (eqb type 10) 15
+    (cond (eqb type 13) 24
+    (6 + pieceCount (length b) * 34))))))
+
+-- it is that of the definition
+pub length-segment : (r : Reading) (type : ℕ) (b : List ℕ) → length (recordBytes (segmentRecords r (record { type = type; body = b }))) ≡ recordsOf type b
+unfolding segmentRecords bodyLength
+length-segment r type b =
+    by-number (λ (t : ℕ). length (recordBytes (segmentRecords r (record { type = t; body = b }))) ≡ recordsOf t b)
+    (length-one 2 b)
+    (dwell r b)
+    (job r b)
+    (text b)
+    (length-one 9 b)
+    (length-one 10 b)
+    (λ t h1 h2 h5 h6 h10 h13. rw (h1, h2, h5, h6, h10, h13) (opaque t b))
+    type

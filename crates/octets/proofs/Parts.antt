@@ -1,0 +1,38 @@
+-- A part of a list, from a place to the end, that is lent to a function: what the function says of the part, said of the whole.
+-- Assumes nothing.
+use mathlib.Core.Path.{_≡_, sym, ap, _∙_}
+use mathlib.Core.List.{List, [], _∷_, _++_, append-nil}
+use Prim.Native.Nat.{ℕ, suc, _+_, _-_}
+use native.Mathlib.Nat.{le-of-eq, le-add-right, add-suc, add-zero}
+use lib.ListN.{length, take, drop, set, length-drop, take-append-drop, drop-of-length-le}
+use lib.Seq.{sets, take-all, drop-set-add, take-set-le}
+use borrow.Rule.Slice.PartMut.{midOf, putMid}
+
+-- the part from a to the end is what is left after a places
+pub tail-is : (a : ℕ) (l : List ℕ) → midOf a (length l - a) l ≡ drop a l
+tail-is a l = take-all (length l - a) (drop a l) (le-of-eq (length-drop a l))
+
+-- put back, it has nothing after it
+pub put-tail : (a : ℕ) (l ys : List ℕ) → putMid a (length l - a) l ys ≡ take a l ++ ys
+put-tail a l ys =
+    ap (λ (r : List ℕ). take a l ++ (ys ++ r)) (drop-of-length-le (drop a l) (le-of-eq (length-drop a l)))
+    ∙ ap (λ (r : List ℕ). take a l ++ r) (append-nil ys)
+
+-- stores in the part are stores in the whole
+pub sets-tail : (a : ℕ) (vs l : List ℕ) (i : ℕ) → take a l ++ sets (drop a l) i vs ≡ sets l (a + i) vs
+sets-tail a [] l i = take-append-drop a l
+sets-tail a (v ∷ vs) l i =
+    let m = set l (a + i) v in
+    ap (λ (r : List ℕ). r ++ sets (set (drop a l) i v) (suc i) vs) (sym (take-set-le a l (a + i) v (le-add-right a i)))
+    ∙ ap (λ (r : List ℕ). take a m ++ sets r (suc i) vs) (sym (drop-set-add a l i v))
+    ∙ sets-tail a vs m (suc i)
+    ∙ ap (λ (n : ℕ). sets m n vs) (add-suc a i)
+
+-- stores in a part that was lent are stores in the whole that comes back
+pub part-stored : (l vs : List ℕ) (a at : ℕ) {r : List ℕ} → r ≡ sets (midOf a (length l - a) l) at vs → putMid a (length l - a) l r ≡ sets l (a + at) vs
+part-stored l vs a at {r} e =
+    put-tail a l r ∙ ap (λ (t : List ℕ). take a l ++ t) (e ∙ ap (λ (t : List ℕ). sets t at vs) (tail-is a l)) ∙ sets-tail a vs l at
+
+-- the same where the part was stored from its first place on
+pub part-filled : (l vs : List ℕ) (a : ℕ) {r : List ℕ} → r ≡ sets (midOf a (length l - a) l) 0 vs → putMid a (length l - a) l r ≡ sets l a vs
+part-filled l vs a e = part-stored l vs a 0 e ∙ ap (λ (n : ℕ). sets l n vs) (add-zero a)

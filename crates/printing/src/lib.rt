@@ -1,0 +1,204 @@
+// What the program prints, laid out in a lent buffer. Each function answers the place behind its bytes.
+ghost use mathlib.Core.Path.{_≡_};
+ghost use mathlib.Core.List.{[], _∷_};
+ghost use Prim.Native.Nat.{_+_, _≤_, _<_};
+ghost use lib.ListN.{length, take};
+ghost use lib.Seq.{sets};
+ghost use Rattle.format.specs.Sheet.{bodyLength};
+ghost use Rattle.format.specs.Writer.{listed};
+ghost use Rattle.printing.specs.Printing.{decimal, signedDecimal, spaced, answerText, answerLine, targetLine, recordLine, targetLines, printed};
+
+fn digit(d: usize) -> u8
+    requires { ⌜ d < 10 ⌝ }
+    ensures { λ r. ⌜ r ≡ 48 + d ⌝ }
+{
+    (48 + d) as u8
+}
+
+// The digits in front of the last are those of n / 10. A usize has at most 20, so calls nest no deeper.
+pub fn put_decimal(o: &mut [u8], at: usize, n: usize) -> usize
+    requires { ⌜ at + length (decimal n) ≤ length (now o) ⌝ }
+    ensures { λ r. ⌜ r ≡ at + length (decimal n) ⌝ }
+    ensures { λ _. ⌜ now (o .exit) ≡ sets (now (o .entry)) at (decimal n) ⌝ }
+{
+    if n < 10 {
+        o[at] = digit(n);
+        at + 1
+    } else {
+        let p = put_decimal(o, at, n / 10);
+        o[p] = digit(n % 10);
+        p + 1
+    }
+}
+
+// The numbers of a line, each after a space, in at most 21 bytes.
+fn put_spaced(o: &mut [u8], at: usize, n: usize) -> usize
+    requires { ⌜ at + 21 ≤ length (now o) ⌝ }
+    ensures { λ r. ⌜ (r ≡ at + length (spaced (n ∷ []))) × (r ≤ at + 21) ⌝ }
+    ensures { λ _. ⌜ now (o .exit) ≡ sets (now (o .entry)) at (spaced (n ∷ [])) ⌝ }
+{
+    o[at] = 32;
+    put_decimal(o, at + 1, n)
+}
+
+fn put_three(o: &mut [u8], at: usize, a: usize, b: usize, c: usize) -> usize
+    requires { ⌜ at + 63 ≤ length (now o) ⌝ }
+    ensures { λ r. ⌜ (r ≡ at + length (spaced (a ∷ b ∷ c ∷ []))) × (r ≤ at + 63) ⌝ }
+    ensures { λ _. ⌜ now (o .exit) ≡ sets (now (o .entry)) at (spaced (a ∷ b ∷ c ∷ [])) ⌝ }
+{
+    let p = put_spaced(o, at, a);
+    let q = put_spaced(o, p, b);
+    put_spaced(o, q, c)
+}
+
+// An answer without the end of its line, in at most 86 bytes.
+pub fn put_answer(o: &mut [u8], at: usize, a: format::Answer) -> usize
+    requires { ⌜ at + 86 ≤ length (now o) ⌝ }
+    ensures { λ r. ⌜ (r ≡ at + length (answerText a)) × (r ≤ at + 86) ⌝ }
+    ensures { λ _. ⌜ now (o .exit) ≡ sets (now (o .entry)) at (answerText a) ⌝ }
+{
+    match a {
+        format::Answer::Accepted {
+            segments,
+            dwells,
+            targets,
+            length,
+        } => {
+            o[at] = b'o';
+            o[at + 1] = b'k';
+            let p = put_three(o, at + 2, segments, dwells, targets);
+            put_spaced(o, p, length)
+        }
+        format::Answer::Refused {
+            number,
+            segment,
+            field,
+        } => {
+            o[at] = b'n';
+            o[at + 1] = b'o';
+            put_three(o, at + 2, number, segment, field)
+        }
+    }
+}
+
+fn answer_line(o: &mut [u8], a: format::Answer) -> usize
+    requires { ⌜ 96 ≤ length (now o) ⌝ }
+    ensures { λ r. ⌜ (r ≡ length (answerLine a)) × (r ≤ 96) ⌝ }
+    ensures { λ _. ⌜ now (o .exit) ≡ sets (now (o .entry)) 0 (answerLine a) ⌝ }
+{
+    let p = put_answer(o, 0, a);
+    o[p] = b'\n';
+    p + 1
+}
+
+fn put_signed(o: &mut [u8], at: usize, z: i32) -> usize
+    requires { ⌜ at + 21 ≤ length (now o) ⌝ }
+    ensures { λ r. ⌜ (r ≡ at + length (signedDecimal z)) × (r ≤ at + 21) ⌝ }
+    ensures { λ _. ⌜ now (o .exit) ≡ sets (now (o .entry)) at (signedDecimal z) ⌝ }
+{
+    if z < 0 {
+        o[at] = b'-';
+        put_decimal(o, at + 1, (-1 - z) as usize + 1)
+    } else {
+        put_decimal(o, at, z as usize)
+    }
+}
+
+// The line of a target is shorter than its body.
+fn target_line(o: &mut [u8], at: usize, b: &[u8]) -> usize
+    requires { ⌜ (at + 44 ≤ length (now o)) × (44 ≤ length (now b)) ⌝ }
+    ensures { λ r. ⌜ (r ≡ at + length (targetLine (now (b .entry)))) × (r ≤ at + 44) ⌝ }
+    ensures { λ _. ⌜ now (o .exit) ≡ sets (now (o .entry)) at (targetLine (now (b .entry))) ⌝ }
+{
+    let p = put_signed(o, at, octets::get_i32(b, 36));
+    let q = put_spaced(o, p, octets::get_u32(b, 40) as usize);
+    o[q] = b'\n';
+    q + 1
+}
+
+fn record_line(o: &mut [u8], at: usize, kind: u8, b: &[u8]) -> usize
+    requires { ⌜ (at + length (now b) ≤ length (now o)) × (length (now b) ≡ bodyLength kind) ⌝ }
+    ensures { λ r. ⌜ (r ≡ at + length (recordLine (record { kind = kind; body = now (b .entry) }))) × (r ≤ at + length (now (b .entry))) ⌝ }
+    ensures { λ _. ⌜ now (o .exit) ≡ sets (now (o .entry)) at (recordLine (record { kind = kind; body = now (b .entry) })) ⌝ }
+{
+    if kind == 4 { target_line(o, at, b) } else { at }
+}
+
+// The length of the body of each kind of record, from 0, which is no kind.
+const BODY_LENGTHS: [usize; 11] = [
+    0,
+    format::HeaderRecord::LEN,
+    format::MissionRecord::LEN,
+    format::DwellRecord::LEN,
+    format::TargetRecord::LEN,
+    format::TextRecord::LEN,
+    format::PieceRecord::LEN,
+    format::OpaqueRecord::LEN,
+    format::JobRecord::LEN,
+    format::TestRecord::LEN,
+    format::LocationRecord::LEN,
+];
+
+fn body_length(kind: u8) -> usize
+    ensures { λ r. ⌜ r ≡ bodyLength kind ⌝ }
+{
+    if kind < 11 {
+        BODY_LENGTHS[kind as usize]
+    } else {
+        0
+    }
+}
+
+// The records of x up to its end, or to one that is cut or of no kind.
+fn target_lines(o: &mut [u8], start: usize, x: &[u8]) -> usize
+    requires { ⌜ start + length (now x) ≤ length (now o) ⌝ }
+    ensures { λ r. ⌜ r ≡ start + length (targetLines (listed (now (x .entry)) .records)) ⌝ }
+    ensures { λ _. ⌜ now (o .exit) ≡ sets (now (o .entry)) start (targetLines (listed (now (x .entry)) .records)) ⌝ }
+    ensures { λ r. ⌜ r ≤ start + length (now (x .entry)) ⌝ }
+{
+    let mut p = start;
+    let mut at = 0;
+    while at < x.len() {
+        let kind = x[at];
+        let n = body_length(kind);
+        if n == 0 {
+            return p;
+        }
+        if x.len() - at - 1 < n {
+            return p;
+        }
+        let from = at + 1;
+        let to = from + n;
+        p = record_line(o, p, kind, &x[from..to]);
+        at = to;
+    }
+    p
+}
+
+fn front(s: &[u8], n: usize) -> &[u8]
+    ensures { λ r. ⌜ now r ≡ take n (now (s .entry)) ⌝ }
+{
+    if n <= s.len() { &s[..n] } else { s }
+}
+
+pub fn print(a: format::Answer, sheet: &[u8], o: &mut [u8]) -> usize
+    requires { ⌜ 96 + length (now sheet) ≤ length (now o) ⌝ }
+    ensures { λ r. ⌜ r ≡ length (printed a (now (sheet .entry))) ⌝ }
+    ensures { λ _. ⌜ now (o .exit) ≡ sets (now (o .entry)) 0 (printed a (now (sheet .entry))) ⌝ }
+    ensures { λ r. ⌜ r ≤ 96 + length (now (sheet .entry)) ⌝ }
+{
+    let p = answer_line(o, a);
+    match a {
+        format::Answer::Accepted {
+            segments: _,
+            dwells: _,
+            targets: _,
+            length,
+        } => target_lines(o, p, front(sheet, length)),
+        format::Answer::Refused {
+            number: _,
+            segment: _,
+            field: _,
+        } => p,
+    }
+}

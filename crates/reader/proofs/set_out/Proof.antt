@@ -1,0 +1,71 @@
+-- `reader::set_out` meets its contract. The header's record stands first, and the others in the part of the sheet behind it.
+-- Assumes nothing.
+use native.Mathlib.Omega.{arith}
+use denote.Ref.{now}
+use lib.ListN.{length, drop, length-drop}
+use Rattle.octets.proofs.Parts.{tail-is}
+use Rattle.format.specs.Sheet.{packetRecords}
+use Rattle.format.specs.Reader.{parse}
+use Rattle.reader.proofs.Outcomes.{laid-behind}
+use borrow.Author.Needs.{needs}
+use Rattle.reader.proofs.set_out.Statement.{statement}
+use Rattle.reader.proofs.set_out.Tie as tie
+
+header-record-requires : tie.Need-header-record-requires
+header-record-requires c κs = search needs
+
+sub-packet-records : tie.Need-sub-packet-records
+sub-packet-records c = search needs
+
+part-packet-records-start : tie.Need-part-packet-records-start
+part-packet-records-start c = search needs
+
+part-packet-records-end : tie.Need-part-packet-records-end
+part-packet-records-end c = search needs
+
+add-packet-records : tie.Need-add-packet-records
+add-packet-records c = search needs
+
+sub-packet-records-2 : tie.Need-sub-packet-records-2
+sub-packet-records-2 c = search needs
+
+part-packet-records-start-2 : tie.Need-part-packet-records-start-2
+part-packet-records-start-2 c = search needs
+
+part-packet-records-end-2 : tie.Need-part-packet-records-end-2
+part-packet-records-end-2 c = search needs
+
+packet-records-requires : tie.Need-packet-records-requires
+packet-records-requires c κs =
+    let s = c .before .before .before .before .before .before .before .before in
+    let packet = now (s .args .packet) in
+    let o = c .before .before .before .before .header-record .last .1 .0 in (
+      rw (tail-is 32 packet, length-drop) (omega (arith, s .pre .1)),
+      rw (tail-is 32 packet) (s .pre .2),
+      rw (tail-is 32 packet, tail-is 33 o, length-drop 33 o) (omega (arith, c .before .before .before .before .header-record .kept, s .pre .3)),
+    )
+
+same-length : tie.Need-same-length
+same-length c = search needs
+
+returns : tie.Need-returns
+returns c =
+    let a = c .before .before .before .before .before .before .before .before .before .before .before .args in
+    laid-behind (now (a .packet)) (now (a .sheet)) (c .before .before .before .before .before .before .before .header-record .last .1 .0) _ (packetRecords (a .r) (parse (a .r) (length (drop 32 (now (a .packet)))) (drop 32 (now (a .packet))) .segments)) (c .before .before .before .before .before .before .before .header-record .ensures)
+    (rw (tail-is 32 (now (a .packet))) at (c .before .before .packet-records .ensures))
+
+pub set-out-spec : {M : Type 1} → statement M
+set-out-spec =
+    tie.close
+    (tie.spec
+    header-record-requires
+    sub-packet-records
+    part-packet-records-start
+    part-packet-records-end
+    add-packet-records
+    sub-packet-records-2
+    part-packet-records-start-2
+    part-packet-records-end-2
+    packet-records-requires
+    same-length
+    returns)

@@ -1,0 +1,26 @@
+-- `records::test_records` meets its contract. The kind, and the bytes copied behind it.
+-- Assumes nothing.
+use mathlib.Core.Path.{refl}
+use denote.Ref.{now}
+use native.Mathlib.Omega.{arith}
+use Rattle.format.specs.Sheet.{bodyLength}
+use Rattle.records.proofs.Laid.{record-copied}
+use borrow.Author.Needs.{needs}
+use Rattle.records.proofs.test_records.Statement.{statement}
+use Rattle.records.proofs.test_records.Tie as tie
+
+put-byte-requires : tie.Need-put-byte-requires
+put-byte-requires c κs = search needs
+
+copy14-requires : tie.Need-copy14-requires
+copy14-requires c κs = search needs
+
+same-length : tie.Need-same-length
+same-length c = search needs
+
+returns : tie.Need-returns
+unfolding bodyLength
+returns c = let a = c .before .before .before .before .before .before .before .before .before .before .args in record-copied 9 14 (now (a .b)) (now (a .o)) refl (omega arith) (c .before .before .before .before .before .before .put-byte .ensures) (c .before .before .copy14 .ensures)
+
+pub test-records-spec : {M : Type 1} → statement M
+test-records-spec = tie.close (tie.spec put-byte-requires copy14-requires same-length returns)

@@ -1,0 +1,4 @@
+pub mod Numbers
+pub mod Positions
+pub mod Turns
+pub mod Within

@@ -1,0 +1,48 @@
+-- The loop over targets: where each stands, and what a turn does to the rows that are left.
+-- Assumes nothing.
+use mathlib.Core.Path.{_≡_, sym, ap, _∙_}
+use mathlib.Core.List.{List}
+use Prim.Native.Nat.{ℕ, suc, _+_, _-_, _*_, _≤_, _<_}
+use native.Mathlib.Nat.{mul-le-mul-right, suc-mul}
+use native.Mathlib.Numerals.{add-one}
+use native.Mathlib.Omega.{arith}
+use lib.ListN.{drop}
+use lib.Seq.{drop-drop}
+use Rattle.mask.specs.Fields.{announcedLength, targetWidths}
+use Rattle.format.specs.declared.Area.{Area}
+use Rattle.format.specs.declared.Check.{Check}
+use Rattle.format.specs.declared.Check.the-variants.{Passed, Failed}
+use Rattle.format.specs.Rows.{firstRow, targetRows, targetsRows}
+use Rattle.format.proofs.Rows.{orElse, first-append}
+
+-- the one after the ith of n things of u bytes begins u bytes later
+pub next-place : (i u : ℕ) → (i + 1) * u ≡ i * u + u
+next-place i u = rw (add-one, suc-mul)
+
+-- and the ith lies within all of them
+pub room : (i n u l : ℕ) → i < n → n * u ≤ l → i * u + u ≤ l
+room i n u l h k = omega (arith, mul-le-mul-right {m = suc i} {n = n} u h, suc-mul i u)
+
+-- at the target at p, with k targets behind it: f is what its own rows say, and x what the rows of all that are left say
+module _ (mask : ℕ) (area : Area) (t : List ℕ) (p k m : ℕ) (x : Check) {f : Check} (hm : m ≡ suc k) (hf : f ≡ firstRow (targetRows mask area (drop p t))) (hx : firstRow (targetsRows mask area m (drop p t)) ≡ x) where
+  here : orElse f (firstRow (targetsRows mask area k (drop (announcedLength mask 32 targetWidths) (drop p t)))) ≡ x
+  unfolding targetsRows
+  here =
+      ap (λ (c : Check). orElse c (firstRow (targetsRows mask area k (drop (announcedLength mask 32 targetWidths) (drop p t))))) hf
+      ∙ sym (first-append (targetRows mask area (drop p t)) (targetsRows mask area k (drop (announcedLength mask 32 targetWidths) (drop p t))))
+      ∙ ap (λ (n : ℕ). firstRow (targetsRows mask area n (drop p t))) (sym hm) ∙ hx
+
+  pub fault-found : (number field : ℕ) → f ≡ Failed number field → Failed number field ≡ x
+  fault-found number field e =
+      sym (ap (λ (c : Check). orElse c (firstRow (targetsRows mask area k (drop (announcedLength mask 32 targetWidths) (drop p t))))) e) ∙ here
+
+  pub fault-later : {each : ℕ} → f ≡ Passed → each ≡ announcedLength mask 32 targetWidths → firstRow (targetsRows mask area k (drop (p + each) t)) ≡ x
+  fault-later e he =
+      ap (λ (n : ℕ). firstRow (targetsRows mask area k (drop (p + n) t))) he
+      ∙ ap (λ (l : List ℕ). firstRow (targetsRows mask area k l)) (sym (drop-drop (announcedLength mask 32 targetWidths) p t))
+      ∙ sym (ap (λ (c : Check). orElse c (firstRow (targetsRows mask area k (drop (announcedLength mask 32 targetWidths) (drop p t))))) e) ∙ here
+
+-- no targets have no rows
+pub rows-end : (mask : ℕ) (area : Area) (n : ℕ) (t : List ℕ) → n ≡ 0 → firstRow (targetsRows mask area n t) ≡ Passed
+unfolding firstRow targetsRows
+rows-end mask area n t e = ap (λ (k : ℕ). firstRow (targetsRows mask area k t)) e

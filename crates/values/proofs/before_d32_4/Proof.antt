@@ -1,0 +1,37 @@
+-- `values::before_d32_4` meets its contract. The sum of the widths that are announced.
+-- Assumes nothing.
+use borrow.Author.Needs.{needs}
+use native.Mathlib.Omega.{arith}
+use Rattle.mask.specs.Fields.{announcedLength}
+use Rattle.values.proofs.before_d32_4.Statement.{statement}
+use Rattle.values.proofs.before_d32_4.Tie as tie
+
+width-if-requires : tie.Need-width-if-requires
+width-if-requires c κs = search needs
+
+width-if-requires-2 : tie.Need-width-if-requires-2
+width-if-requires-2 c κs = search needs
+
+add-result : tie.Need-add-result
+add-result c = search needs
+
+width-if-requires-3 : tie.Need-width-if-requires-3
+width-if-requires-3 c κs = search needs
+
+add-result-2 : tie.Need-add-result-2
+add-result-2 c = search needs
+
+returns : tie.Need-returns
+unfolding announcedLength
+returns c = omega arith
+
+pub before-d32-4-spec : {M : Type 1} → statement M
+before-d32-4-spec =
+    tie.close
+    (tie.spec
+    width-if-requires
+    width-if-requires-2
+    add-result
+    width-if-requires-3
+    add-result-2
+    returns)

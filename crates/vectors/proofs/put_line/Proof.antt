@@ -1,0 +1,73 @@
+-- `vectors::put_line` meets its contract. The name, the answer and the sheet, one after another.
+-- Assumes nothing.
+use native.Mathlib.Omega.{arith}
+use native.Mathlib.Nat.{zero-add}
+use Prim.Native.Nat.{ℕ, _+_, _*_, _≤_}
+use mathlib.Core.Path.{_≡_, _∙_}
+use mathlib.Core.List.{[], _∷_, _++_}
+use denote.Ref.{now}
+use lib.ListN.{length, length-append, length-set}
+use Rattle.vectors.proofs.Spellings.{hex-laid, line-laid}
+use borrow.Author.Needs.{needs}
+use Rattle.vectors.proofs.put_line.Statement.{statement}
+use Rattle.vectors.proofs.put_line.Tie as tie
+
+-- the buffer keeps its length up to the sheet's bytes
+kept : (c : tie.After-put-hex) → length (c .put-hex .last .0) ≡ length (now (c .before .before .before .before .before .before .before .before .before .before .before .before .before .args .o))
+kept c =
+    c .put-hex .kept .0
+    ∙ length-set {A = ℕ} (c .before .before .before .before .put-answer .last .0) (c .before .before .before .before .put-answer .result) 32
+    ∙ c .before .before .before .before .put-answer .kept .0
+    ∙ c .before .before .before .before .before .before .before .before .put-name .kept .0
+
+-- and they end within it
+ends : (c : tie.After-put-hex) → c .put-hex .result ≤ length (now (c .before .before .before .before .before .before .before .before .before .before .before .before .before .args .name)) + 2 * length (now (c .before .before .before .before .before .before .before .before .before .before .before .before .before .args .sheet)) + 89
+ends c = omega (arith, c .put-hex .ensures .0, c .before .before .before .before .put-answer .ensures .0 .1, c .before .before .before .before .before .before .before .before .put-name .ensures .0)
+
+put-name-requires : tie.Need-put-name-requires
+put-name-requires c κs = search needs
+
+put-answer-requires : tie.Need-put-answer-requires
+put-answer-requires c κs = search needs
+
+slice-write-o : tie.Need-slice-write-o
+slice-write-o c = search needs
+
+add-put-hex : tie.Need-add-put-hex
+add-put-hex c = search needs
+
+put-hex-requires : tie.Need-put-hex-requires
+put-hex-requires c κs = rw (length-set, c .before .before .before .put-answer .kept .0, c .before .before .before .before .before .before .before .put-name .kept .0) (omega (arith, c .before .before .before .put-answer .ensures .0 .1, c .before .before .before .before .before .before .before .put-name .ensures .0, c .before .before .before .before .before .before .before .before .before .before .before .before .pre))
+
+slice-write-o-2 : tie.Need-slice-write-o-2
+slice-write-o-2 c = omega (arith, kept (c .before .before), ends (c .before .before), c .before .before .before .before .before .before .before .before .before .before .before .before .before .before .before .pre)
+
+add-result : tie.Need-add-result
+add-result c = search needs
+
+same-length : tie.Need-same-length
+same-length c = rw length-set (kept (c .before .before))
+
+returns : tie.Need-returns
+returns c =
+    let a = c .before .before .before .before .before .before .before .before .before .before .before .before .before .before .before .args in
+    let n = c .before .before .before .before .before .before .before .before .before .before .put-name .ensures in
+    let e = c .before .before .before .before .before .before .put-answer .ensures in
+    let f = c .before .before .put-hex .ensures in
+    let p : c .before .before .before .before .before .before .before .before .before .before .put-name .result ≡ 0 + length (now (a .name) ++ (58 ∷ 32 ∷ [])) = omega (arith, n .0, length-append (now (a .name)) (58 ∷ 32 ∷ [])) in
+    let h = line-laid (now (a .name)) (now (a .o)) (now (a .sheet)) (a .a) (p, n .1) (e .0 .0, e .1) (hex-laid (now (a .sheet)) _ (c .before .before .before .before .before .before .put-answer .result + 1) (f .0) (f .1)) in
+    ((h .0 ∙ zero-add _, rw length-set (omega (arith, kept (c .before .before), ends (c .before .before), c .before .before .before .before .before .before .before .before .before .before .before .before .before .before .before .pre))), h .1)
+
+pub put-line-spec : {M : Type 1} → statement M
+put-line-spec =
+    tie.close
+    (tie.spec
+    put-name-requires
+    put-answer-requires
+    slice-write-o
+    add-put-hex
+    put-hex-requires
+    slice-write-o-2
+    add-result
+    same-length
+    returns)
