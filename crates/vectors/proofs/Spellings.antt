@@ -93,15 +93,6 @@ spelt-end s i n h = rw (drop-of-length-le s h)
 pub stored : (l : List ℕ) (p v : ℕ) (vs : List ℕ) → sets (set l p v) (p + 1) vs ≡ sets l p (v ∷ vs)
 stored l p v vs = rw (add-one p)
 
--- a copied byte more
-pub copied-turn : (s l : List ℕ) (at i : ℕ) → i < length s → sets (set l (at + i) (getD s i 0)) (at + (i + 1)) (drop (i + 1) s) ≡ sets l (at + i) (drop i s)
-copied-turn s l at i h =
-    let e : at + (i + 1) ≡ at + i + 1 = omega arith in
-    rw (drop-cons s i 0 h, e, stored l (at + i) (getD s i 0) (drop (i + 1) s), add-one i)
-
-pub copied-end : (s l : List ℕ) (p i : ℕ) → length s ≤ i → sets l p (drop i s) ≡ l
-copied-end s l p i h = rw (drop-of-length-le s h)
-
 -- a pair of hex digits more
 pub hexed-turn : (s l : List ℕ) (p i : ℕ) → i < length s
     → sets (set (set l p (hexDigit (getD s i 0 / 16))) (p + 1) (hexDigit (getD s i 0 % 16))) (p + 2) (hexed (drop (i + 1) s)) ≡ sets l p (hexed (drop i s))

@@ -103,24 +103,13 @@ pub fn put_hex(o: &mut [u8], at: usize, s: &[u8]) -> usize
     p
 }
 
-// The bytes of s from `at` on in o; answers the place behind them.
-pub fn put(o: &mut [u8], at: usize, s: &[u8]) -> usize
-    requires { ⌜ at + length (now s) ≤ length (now o) ⌝ }
-    ensures { λ r. ⌜ r ≡ at + length (now (s .entry)) ⌝ }
-    ensures { λ _. ⌜ now (o .exit) ≡ sets (now (o .entry)) at (now (s .entry)) ⌝ }
-{
-    for i in 0..s.len() {
-        o[at + i] = s[i];
-    }
-    at + s.len()
-}
-
 fn put_name(o: &mut [u8], name: &[u8]) -> usize
     requires { ⌜ length (now name) + 2 ≤ length (now o) ⌝ }
     ensures { λ r. ⌜ r ≡ length (now (name .entry)) + 2 ⌝ }
     ensures { λ _. ⌜ now (o .exit) ≡ sets (now (o .entry)) 0 (now (name .entry) ++ (58 ∷ 32 ∷ [])) ⌝ }
 {
-    let p = put(o, 0, name);
+    copies::copy_all(name, o, 0);
+    let p = name.len();
     o[p] = b':';
     o[p + 1] = b' ';
     p + 2
