@@ -1,19 +1,32 @@
-"""Random cases: python3 fuzz.py SEED COUNT STDIN STDOUT writes COUNT cases to
-the two files, in the formats of make.py, and a histogram of the answers to
-standard error.  The same seed gives the same cases.
+"""Random cases, in the formats of make.py.  The same seed gives the same
+cases.  A histogram of the answers goes to standard error.
 
-About half of the packets are good ones; the others are spoilt, either in one
-value of a packet that is good otherwise, or in their bytes.  The program that
-reads them takes 262,144 bytes of input, which some 400 cases fill.
+python3 fuzz.py SEED COUNT STDIN STDOUT
+    COUNT readings and writings.  About half of the packets are good ones; the
+    others are spoilt, either in one value of a packet that is good otherwise,
+    or in their bytes.  About a third of the cases are writings: the sheet of a
+    good packet, and half of these sheets are damaged.  The program that reads
+    the cases takes 262,144 bytes of input, which some 400 cases fill.
+python3 fuzz.py editions SEED COUNT STDIN STDOUT
+    COUNT packets whose two readings are compared.
+python3 fuzz.py long SEED STDIN STDOUT
+    two writings: sheets whose packets have 65,536 bytes, which row 20 refuses
+    for want of a buffer, and a few bytes more, which row 19 refuses.
+python3 fuzz.py rounds SEED COUNT
+    writes no file: COUNT good packets are read as Edition 3, written back and
+    compared with themselves, and demand 3 is asserted of each.
 """
 
 import sys
 from collections import Counter
 from random import Random
 
-from make import dwell, header, lines_of, mask_of, numbers, opaque, room
-from make import segment
-from reference import D, D32, NEW_MODES, RECORD_BODY, TEXT, read
+from make import dwell, header, kind6, kind7, kind9, kind10, lines_of
+from make import lines_of_editions, mask_of, numbers, opaque, pieces_of, room
+from make import segment, sheet_of, sheet_with
+from reference import D, D32, NEW_MODES, RECORD_BODY, TEXT, Refused
+from reference import announced_fields, editions, grouped, read, records_of
+from reference import spell, write
 
 TEXT_OCTETS = sorted(TEXT)
 BIG = 2 ** 31
@@ -291,27 +304,41 @@ class Maker:
 
     # ------------------------------------------------------------------ cases
 
-    def case(self):
-        """An edition, a packet and a number of lent bytes."""
+    def good(self, version, new, many, counts=(0, 1, 1, 2, 2, 3, 3, 4, 5, 7)):
+        """The segments of a good packet."""
+        return [self.any_segment(version, new, many)
+                for _ in range(self.random.choice(counts))]
+
+    def good_packet(self, new, many, **counts):
         version = self.random.choice((1, 3, 3))
+        parts = self.good(version, new, many, **counts)
+        packet = self.packet(version, parts)
+        check_good(parts, packet, new and version == 3)
+        return packet
+
+    def any_packet(self, new, many):
+        """A packet that is good or spoilt."""
+        way = self.random.randrange(100)
+        if way < 50:
+            return self.good_packet(new, many)
+        version = self.random.choice((1, 3, 3))
+        parts = self.good(version, new, many)
+        if way < 75:
+            parts.insert(self.random.randrange(len(parts) + 1),
+                         self.one_wrong_value(version, new, many))
+            return self.packet(version, parts)
+        return self.damaged(version, parts)
+
+    def case(self):
+        """An edition, a packet and a number of lent bytes; or the letter w, a
+        sheet and a number of lent bytes."""
+        if self.chance(33):
+            return self.writing()
         edition = self.random.choice((1, 3))
         if self.chance(2):
             edition = self.random.choice((0, 2, 4, 255, 256 + 3, 4294967295))
-        many = self.chance(6)
-        new = self.chance(60 if edition == 3 else 22)
-        count = self.random.choice((0, 1, 1, 2, 2, 3, 3, 4, 5, 7))
-        parts = [self.any_segment(version, new, many) for _ in range(count)]
-
-        way = self.random.randrange(100)
-        if way < 50:
-            packet = self.packet(version, parts)
-            check_good(version, parts, packet)
-        elif way < 75:
-            parts.insert(self.random.randrange(len(parts) + 1),
-                         self.one_wrong_value(version, new, many))
-            packet = self.packet(version, parts)
-        else:
-            packet = self.damaged(version, parts)
+        packet = self.any_packet(new=self.chance(60 if edition == 3 else 22),
+                                 many=self.chance(6))
         if len(packet) > 3000:
             return self.case()
 
@@ -326,89 +353,240 @@ class Maker:
         # the program that reads the cases lends no more
         return edition, packet, min(max(lent, 0), 8192)
 
+    def compared(self):
+        """A packet for the comparison of the two readings."""
+        new = self.chance(70)
+        packet = (self.good_packet(new, self.chance(6)) if self.chance(60)
+                  else self.any_packet(new, self.chance(6)))
+        return packet if len(packet) <= 3000 else self.compared()
 
-def spelt(sheet):
-    """The packet again, from an Edition 3 sheet: its fields in their places,
-    nothing else.  A check of the reference itself."""
-    out, place = b'', 0
-    pending = None           # the segment that pieces or targets still join
+    # --------------------------------------------------------------- writings
 
-    def closed(part):
-        return b'' if part is None else segment(part[0], part[1])
-    while place < len(sheet):
-        kind = sheet[place]
-        body = sheet[place + 1:place + 1 + RECORD_BODY[kind]]
-        place += 1 + len(body)
-        if kind == 6:
-            pending[1] += body[1:1 + body[0]]
-            continue
-        if kind == 4:
-            pending[1] += announced_of(D32, pending[2], body)
-            continue
-        out += closed(pending)
-        if kind == 1:
-            out, pending = body, None
-        elif kind == 3:
-            mask = int.from_bytes(body[:8], 'big')
-            pending = [2, body[:8] + announced_of(D, mask, body[8:]), mask]
-        elif kind == 5:
-            pending = [6, body[:20]]
-        elif kind == 7:
-            pending = [body[0], b'']
-        elif kind == 8:
-            pending = [5, body[:68]]
+    def writing(self):
+        packet = self.good_packet(self.chance(50), self.chance(3),
+                                  counts=(0, 1, 1, 2, 2, 3, 4))
+        sheet = sheet_of(packet)
+        if len(sheet) > 2500:
+            return self.writing()
+        if self.chance(50):
+            sheet = self.damaged_sheet(packet, sheet)
+            # without this nearly every change of length would be seen by its
+            # P2 alone
+            if self.chance(60):
+                sheet = with_p2(sheet)
+
+        answer, _ = write(sheet, bytes(8192))
+        near = answer[4] if answer[0] == 'ok' else len(packet)
+        lent = near + self.random.choice(
+            (0, 0, 0, 1, 3, 5, 40, -1, -1, -self.random.randint(1, 40)))
+        if self.chance(5):
+            lent = self.random.randrange(3)
+        return 'w', sheet, min(max(lent, 0), 8192)
+
+    def damaged_sheet(self, packet, sheet):
+        """One change; where a sheet has no place for the one that is drawn,
+        another is drawn."""
+        records = [bytes([kind]) + body for kind, body in records_of(sheet)]
+        what = self.random.choice((
+            'byte', 'byte', 'byte', 'remove', 'remove', 'double', 'double',
+            'swap', 'swap', 'cut', 'append', 'marks', 'marks', 'filling',
+            'filling', 'count', 'count', 'count', 'length', 'length',
+            'position', 'position', 'mask', 'mask', 'absent', 'absent',
+            'type', 'kind', 'P2', 'version', 'reading 1'))
+        if what == 'reading 1':
+            answer, left = read(1, packet, bytes(len(sheet)))
+            made = left if answer[0] == 'ok' else sheet
+        elif what == 'cut':
+            made = sheet[:self.random.randrange(len(sheet))]
+        elif what == 'append':
+            made = sheet + self.random.choice((
+                self.octets(self.random.randint(1, 40)), kind6(b'x'),
+                kind7(7, 1), kind9(), kind7(4, 0), kind10()))
         else:
-            pending = [{2: 1, 9: 10, 10: 13}[kind], body]
-    return out + closed(pending)
+            made = b''.join(self.damaged_records(what, records))
+        return made if made != sheet else self.damaged_sheet(packet, sheet)
+
+    def damaged_records(self, what, records):
+        """The records with one of them removed, doubled, moved or changed."""
+        records = list(records)
+        if what == 'swap':
+            one, other = (self.random.randrange(len(records)) for _ in '12')
+            if self.chance(60):
+                other = min(one + 1, len(records) - 1)
+            records[one], records[other] = records[other], records[one]
+            return records
+
+        # the records with a place for the change
+        kinds = {'marks': (3, 8), 'filling': (6,), 'count': (3, 6),
+                 'length': (5, 7), 'position': (4,), 'mask': (3,),
+                 'absent': (3, 4), 'type': (7,), 'P2': (1,), 'version': (1,)
+                 }.get(what, RECORD_BODY)
+        places = [at for at, made in enumerate(records) if made[0] in kinds]
+        if not places:
+            return records
+        at = self.random.choice(places)
+        if what == 'remove':
+            del records[at]
+        elif what == 'double':
+            records.insert(at, records[at])
+        else:
+            made = bytearray(records[at])
+            self.change(what, made, records[:at])
+            records[at] = bytes(made)
+        return records
+
+    def change(self, what, made, before):
+        """Changes a record; before are those in front of it."""
+        kind = made[0]
+        if what == 'byte':
+            place = self.random.randrange(1, len(made))
+            made[place] ^= self.random.choice(
+                (1, 0x80, self.random.randrange(1, 256)))
+        elif what == 'kind':
+            made[0] = self.random.choice((0, 11, 255,
+                                          self.random.randrange(1, 11)))
+        elif what == 'marks':
+            made[-1] = self.random.choice((0, 0, 2, 255))
+            if self.chance(50):
+                if kind == 3:
+                    made[78:80] = b'\0\0'
+                else:
+                    made[66] = 0
+        elif what == 'filling':
+            if made[1] < 32:
+                made[self.random.randint(2 + made[1], 33)] = \
+                    self.random.randint(1, 255)
+        elif what == 'count':
+            # the count of a piece, or D5
+            place = 1 if kind == 6 else self.random.choice((14, 15, 15, 15))
+            made[place] = self.random.choice((
+                0, 33, 32, 255, (made[place] - 1) % 256,
+                (made[place] + 1) % 256, self.random.randrange(33)))
+        elif what == 'length':
+            old = int.from_bytes(made[-4:], 'big')
+            made[-4:] = self.random.choice((
+                0, max(old - 1, 0), old + 1, old + 32, old + 2 ** 16,
+                old + 2 ** 24, 2 ** 32 - 1)).to_bytes(4, 'big')
+        elif what == 'position':
+            place = self.random.choice((37, 41))
+            old = int.from_bytes(made[place:place + 4], 'big')
+            new = self.random.choice((old - 1, old + 1, 0, 360000000, -old))
+            made[place:place + 4] = (new % 2 ** 32).to_bytes(4, 'big')
+        elif what == 'mask':
+            bit = self.random.choice((self.random.randrange(64),
+                                      self.random.randrange(26, 31),
+                                      self.random.randrange(10, 49)))
+            made[1 + bit // 8] ^= 0x80 >> bit % 8
+        elif what == 'absent':
+            # a field that is not announced is not zero
+            dwells = [each for each in before if each[0] == 3] + (
+                [made] if kind == 3 else [])
+            announced = announced_fields(
+                int.from_bytes(dwells[-1][1:9], 'big'))
+            place, free = (9, []) if kind == 3 else (1, [])
+            for n, width in D if kind == 3 else D32:
+                if n not in announced:
+                    free += range(place, place + width)
+                place += width
+            if free:
+                made[self.random.choice(free)] = self.random.randint(1, 255)
+        elif what == 'type':
+            made[1] = self.random.choice((0, 1, 2, 5, 6, 10, 13, 14, 200, 3,
+                                          102, self.random.randrange(256)))
+        elif what == 'P2':
+            p2 = int.from_bytes(made[3:7], 'big') + self.random.choice(
+                (-1, 1, 2 ** 16, 2 ** 24, 19))
+            made[3:7] = p2.to_bytes(4, 'big')
+        elif what == 'version':
+            made[1:3] = self.random.choice((b'10', b'19', b'30', b'3:', b'20'))
+
+    def long_sheet(self, length):
+        """A sheet of short records, since the packet is to be longer than the
+        sheet: the packet has length bytes, the last of them in an opaque
+        body."""
+        records, left = [], length - 32
+        while left > 80:
+            made, size = self.random.choice(((kind9(), 19), (kind9(), 19),
+                                             (kind9(), 19), (kind10(), 28)))
+            records.append(made[:1] + self.octets(len(made) - 1))
+            left -= size
+        body = self.octets(left - 5)
+        return sheet_with(3, length, *records, kind7(7, len(body)),
+                          pieces_of(body))
 
 
-def announced_of(table, mask, octets):
-    out, place = b'', 0
-    for n, width in table:
-        if mask >> 65 - n & 1:
-            out += octets[place:place + width]
-        place += width
-    return out
+def with_p2(sheet):
+    """The sheet with the length of the spelt bytes in P2, where rows 17 and
+    18 do not apply."""
+    try:
+        groups = grouped(records_of(sheet))
+    except Refused:
+        return sheet
+    length = 32 + sum(5 + len(spell(*group)[1]) for group in groups[1:])
+    return sheet[:3] + length.to_bytes(4, 'big') + sheet[7:]
 
 
-def check_good(version, parts, packet):
-    """What is known of a good packet without reading it."""
+def check_good(parts, packet, may_be_new):
+    """What is known of a good packet without reading it: the parts it was made
+    of, that it comes back, and demand 3."""
     answer, left = read(3, packet, bytes(200000))
     assert answer[0] == 'ok', (answer, packet.hex())
     assert answer[1] == len(parts)
     assert answer[2] == sum(part[0] == 2 for part in parts)
-    sheet = left[:answer[4]]
-    assert spelt(sheet) == packet, packet.hex()
-    other, old = read(1, packet, bytes(200000))
-    if version == 1:
-        assert (other, old) == (answer, left)
-    elif other[0] == 'ok':
-        assert other == answer
-    else:
-        assert other[1] == 15, (other, packet.hex())
+    assert write(left[:answer[4]], bytes(len(packet))) == (
+        answer[:4] + (len(packet),), packet), packet.hex()
+    line = editions(packet)
+    assert line.startswith('alike ') or may_be_new, (line, packet.hex())
+
+
+def save(cases, stdin, stdout):
+    """The two files, from pairs of lines, and the histogram."""
+    answers, longest, total = Counter(), 0, 0
+    with open(stdin, 'w', newline='\n') as given, \
+            open(stdout, 'w', newline='\n') as wanted:
+        for line, answer in cases:
+            given.write(line)
+            wanted.write(answer)
+            total += len(line)
+            longest = max(longest, len(line))
+            words = answer.split(': ', 1)[1].split()
+            if words[0] == 'no':
+                words[0] = 'no %2d' % int(words[1])
+            if line.split(': ', 1)[1].startswith('w '):
+                words[0] = 'w ' + words[0]
+            answers[words[0]] += 1
+    for name, number in sorted(answers.items()):
+        print('%-7s %6d' % (name, number), file=sys.stderr)
+    print('lines: %d characters, %d at most in one' % (total, longest),
+          file=sys.stderr)
 
 
 def main():
-    seed, count = int(sys.argv[1]), int(sys.argv[2])
+    mode, given = 'cases', sys.argv[1:]
+    if given[0] in ('editions', 'long', 'rounds'):
+        mode, given = given[0], given[1:]
+    seed = int(given[0])
     maker = Maker(Random(seed))
-    answers, sizes = Counter(), []
-    with open(sys.argv[3], 'w', newline='\n') as stdin, \
-            open(sys.argv[4], 'w', newline='\n') as stdout:
-        for index in range(count):
-            edition, packet, lent = maker.case()
-            given, wanted = lines_of('fuzz %d-%d' % (seed, index), edition,
-                                     packet, lent)
-            stdin.write(given)
-            stdout.write(wanted)
-            words = wanted.split(': ', 1)[1].split()
-            answers[words[0] if words[0] == 'ok'
-                    else 'no %2d' % int(words[1])] += 1
-            sizes.append(len(packet))
-    for name, number in sorted(answers.items()):
-        print('%-6s %6d' % (name, number), file=sys.stderr)
-    print('packets: %d at most, %d of %d over 600 bytes'
-          % (max(sizes), sum(size > 600 for size in sizes), count),
-          file=sys.stderr)
+    if mode == 'long':
+        lengths = (65536, 65536 + maker.random.randint(1, 9))
+        sheets = [maker.long_sheet(length) for length in lengths]
+        save([lines_of('long %d-%d' % (seed, index), 'w', sheet,
+                       maker.random.randrange(8192))
+              for index, sheet in enumerate(sheets)], *given[1:])
+        return
+    numbered = range(int(given[1]))
+    if mode == 'rounds':
+        for _ in numbered:
+            maker.good_packet(maker.chance(50), maker.chance(10))
+        print('%d packets read and written back' % len(numbered),
+              file=sys.stderr)
+    elif mode == 'editions':
+        save((lines_of_editions('editions %d-%d' % (seed, index),
+                                maker.compared())
+              for index in numbered), *given[2:])
+    else:
+        save((lines_of('fuzz %d-%d' % (seed, index), *maker.case())
+              for index in numbered), *given[2:])
 
 
 if __name__ == '__main__':

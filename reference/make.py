@@ -1,23 +1,41 @@
-"""Makes the test vectors: python3 make.py FOLDER writes FOLDER/stdin and
-FOLDER/stdout.
+"""Makes the test vectors.
+
+python3 make.py FOLDER writes FOLDER/stdin and FOLDER/stdout: first the
+readings, then the writings.
 
 A line of stdin:   NAME: E LENT HEX
     E the edition asked for, LENT the number of lent sheet bytes (each of them
-    0xAA), HEX the packet.
+    0xAA), HEX the packet; for a writing E is the letter w, LENT the number of
+    lent packet bytes (each of them 0xAA), HEX the sheet.
 A line of stdout:  NAME: ok SEGMENTS DWELLS TARGETS LENGTH HEXLEFT
                or  NAME: no NUMBER SEGMENT FIELD HEXLEFT
     HEXLEFT all lent bytes afterwards.
 
+python3 make.py editions FOLDER writes two other files of the same names there.
+They compare the two readings of a packet.
+
+A line of stdin:   NAME: HEX
+    HEX the packet.
+A line of stdout:  NAME: no NUMBER SEGMENT FIELD
+               or  NAME: new no 15 SEGMENT FIELD
+               or  NAME: alike ok SEGMENTS DWELLS TARGETS LENGTH
+    see editions in reference.py.
+
+python3 make.py programs CRATES writes stdin and stdout of the programs
+CRATES/gmti_sheet and CRATES/gmti_write: a packet, and its sheet.
+
 The answers are those of reference.py.  Each vector also carries the answer
-that a person expects from document 01, and for some the targets' positions;
-the two must agree or nothing is written.
+that a person expects from document 01, for some readings the targets'
+positions, and for each accepted writing the packet; they must agree or nothing
+is written.
 """
 
 import os
 import re
 import sys
 
-from reference import D, D32, J, M, P, RECORD_BODY, printed, read
+from reference import D, D32, J, M, P, RECORD_BODY
+from reference import editions, filled_in, printed, read, write
 
 
 # ------------------------------------------------------- spelling of packets
@@ -114,6 +132,18 @@ def mask_of(announced):
     return sum(1 << 65 - n for n in announced)
 
 
+def usual_dwell(count, changes):
+    """The value of each Dn; count is D5, a change is given as D27=0."""
+    values = {n: int.from_bytes(bytes((n + 48 * k) % 256 for k in range(w)),
+                                'big')
+              for n, w in D}
+    values.update({4: 1, 5: count, 10: 0x00001234, 11: 0x00005678,
+                   24: 0x12345678, 25: 0x9ABCDEF0, 27: 0x2727})
+    for name, value in changes.items():
+        values[int(name[1:])] = value
+    return values
+
+
 def usual_target(index):
     values = {n: int.from_bytes(bytes((n + 32 * k + 5 * index) % 128
                                       for k in range(w)), 'big')
@@ -132,13 +162,7 @@ def dwell(more='', targets=(), without='', mask=None, size=None, s2=None,
         mask = mask_of(announced)
     else:
         mask = int(mask.replace(' ', ''), 16)
-    values = {n: int.from_bytes(bytes((n + 48 * k) % 256 for k in range(w)),
-                                'big')
-              for n, w in D}
-    values.update({4: 1, 5: len(targets), 10: 0x00001234, 11: 0x00005678,
-                   24: 0x12345678, 25: 0x9ABCDEF0, 27: 0x2727})
-    for name, value in changes.items():
-        values[int(name[1:])] = value
+    values = usual_dwell(len(targets), changes)
     body = octets(mask, 8)
     for n, width in D:
         if mask >> 65 - n & 1:
@@ -174,6 +198,84 @@ def room(packet_):
     return total
 
 
+# -------------------------------------------------------- spelling of sheets
+
+def sheet_with(version, length, *records, **changes):
+    """A sheet whose header has length in P2; a change is given as P2=0."""
+    return b'\x01' + header(version, length, **changes) + b''.join(records)
+
+
+def kind2(**changes):
+    return b'\x02' + mission(**changes)[5:]
+
+
+def kind3(more='', count=0, mark=1, without='', mask=None, **changes):
+    """A dwell record.  A field that the mask does not announce is zero unless
+    it is one of the changes; D5 always has a value."""
+    if mask is None:
+        mask = mask_of((numbers(LEAST) | numbers(more)) - numbers(without))
+    values = usual_dwell(count, changes)
+    body = octets(mask, 8)
+    for n, width in D:
+        kept = mask >> 65 - n & 1 or n == 5 or 'D%d' % n in changes
+        body += octets(values[n] if kept else 0, width)
+    return b'\x03' + body + octets(mark, 1)
+
+
+def kind4(announced, given, latitude, longitude, index=0):
+    """A target record.  A field that is not announced is zero unless it is
+    given; given is a dictionary from j to the value of D32.j."""
+    values = usual_target(index)
+    values.update({31 + j: value for j, value in given.items()})
+    body = b''
+    for n, width in D32:
+        kept = n in numbers(announced) or n - 31 in given
+        body += octets(values[n] if kept else 0, width)
+    return b'\x04' + body + octets(latitude, 4) + octets(longitude, 4)
+
+
+def kind5(length, f1='FIRST-NAME', f2='SECONDNAME'):
+    return b'\x05' + octets(f1, 10) + octets(f2, 10) + octets(length, 4)
+
+
+def kind6(part, count=None, filling=b''):
+    """A piece; filling stands behind the part, zeros behind that."""
+    if isinstance(part, str):
+        part = part.encode('latin-1')
+    count = len(part) if count is None else count
+    return b'\x06' + octets(count, 1) + (part + filling).ljust(32, b'\0')
+
+
+def kind7(type_, length):
+    return b'\x07' + octets(type_, 1) + octets(length, 4)
+
+
+def kind8(mark=1, **changes):
+    return b'\x08' + job(**changes)[5:] + octets(mark, 1)
+
+
+def kind9():
+    return b'\x09' + test()[5:]
+
+
+def kind10():
+    return b'\x0A' + location()[5:]
+
+
+def pieces_of(body):
+    """The pieces of a body."""
+    if isinstance(body, str):
+        body = body.encode('latin-1')
+    return b''.join(kind6(body[at:at + 32]) for at in range(0, len(body), 32))
+
+
+def sheet_of(packet_, edition=3):
+    """The sheet that a reading makes of an accepted packet."""
+    answer, left = read(edition, packet_, bytes(12 * len(packet_)))
+    assert answer[0] == 'ok', answer
+    return left[:answer[4]]
+
+
 # ---------------------------------------------------------------- the vectors
 
 VECTORS = []        # the list that is kept short
@@ -192,18 +294,25 @@ def positions(sheet):
     return found
 
 
-def lines_of(name, edition, packet_, lent):
-    """The two lines of a vector."""
-    answer, left = read(edition, packet_, b'\xAA' * lent)
-    return ('%s: %d %d %s\n' % (name, edition, lent, packet_.hex()),
+def lines_of(name, edition, given, lent):
+    """The two lines of a vector; given is a packet, or a sheet where the
+    edition is the letter w."""
+    lent_bytes = b'\xAA' * lent
+    answer, left = (write(given, lent_bytes) if edition == 'w'
+                    else read(edition, given, lent_bytes))
+    return ('%s: %s %d %s\n' % (name, edition, lent, given.hex()),
             '%s: %s %s\n' % (name, ' '.join(map(str, answer)), left.hex()))
+
+
+def check_name(name, others):
+    assert re.fullmatch(r'[A-Za-z0-9.\-]+( [A-Za-z0-9.\-]+)*', name), name
+    assert all(name != other[0] for other in others), name
 
 
 def vector(name, edition, packet_, want, lend=None, at=None):
     """want: the answer's words; lend: a number, 'exact', 'short' (one byte too
     few) or 'full' (as much as the sheet would take); at: positions."""
-    assert re.fullmatch(r'[A-Za-z0-9.\-]+( [A-Za-z0-9.\-]+)*', name), name
-    assert all(name != other[0] for other in VECTORS), name
+    check_name(name, VECTORS)
     assert len(packet_) < 1000, name
     place = len(VECTORS)
     answer, sheet = read(edition, packet_, b'\xAA' * 70000)
@@ -226,6 +335,30 @@ def vector(name, edition, packet_, want, lend=None, at=None):
     given = ' '.join(map(str, read(edition, packet_, b'\xAA' * lend)[0]))
     assert given == want, (name, given, want)
     VECTORS.append((name, edition, packet_, lend))
+
+
+def written(name, sheet_, want, lend=None, gives=None):
+    """A writing.  want: the answer's words; lend: a number, 'exact' or 'short'
+    (one byte too few); gives: the packet, where one is spelt and accepted."""
+    name = 'write ' + name
+    check_name(name, VECTORS)
+    assert len(sheet_) < 1400, name
+    place = len(VECTORS)
+    answer, left = write(sheet_, b'\xAA' * 8192)
+    assert (answer[0] == 'ok') == (gives is not None), name
+    if gives is not None:
+        assert left[:answer[4]] == gives, name
+    if lend is None and answer[0] == 'ok':
+        lend = answer[4] + 3
+    elif lend is None:
+        lend = len(sheet_) if place % 2 else place % 5
+    elif lend == 'exact':
+        lend = answer[4]
+    elif lend == 'short':
+        lend = answer[4] - 1
+    given = ' '.join(map(str, write(sheet_, b'\xAA' * lend)[0]))
+    assert given == want, (name, given, want)
+    VECTORS.append((name, 'w', sheet_, lend))
 
 
 def both(name, packet_, want, **named):
@@ -913,11 +1046,15 @@ def new_things():
          packet(3, dwell(D27=0), job(J26=0)), 'ok 2 1 0 191')
 
 
+# A segment of every kind of record.
+EVERY_KIND = (mission(), job(), dwell(ALL_ABSOLUTE, targets=[{}, {}]),
+              text('Road 7 open\r\n'), test(), location(),
+              dwell('D31 ' + DELTAS, targets=[{}]), opaque(12, b'\x01\x02'),
+              dwell(), opaque(102))
+
+
 def mixtures():
-    parts = (mission(), job(), dwell(ALL_ABSOLUTE, targets=[{}, {}]),
-             text('Road 7 open\r\n'), test(), location(),
-             dwell('D31 ' + DELTAS, targets=[{}]), opaque(12, b'\x01\x02'),
-             dwell(), opaque(102))
+    parts = EVERY_KIND
     whole = 33 + 40 + 70 + (88 + 90) + (25 + 34) + 15 + 24 + (88 + 45) \
         + (6 + 34) + 88 + 6
     for version in (1, 3):
@@ -1055,16 +1192,632 @@ def program():
                                        D10=0))).startswith(begins)
 
 
-def main():
-    for part in (call_and_header, segment_heads, texts, masks,
-                 sizes_of_dwells, values, positions_of_targets, shapes,
-                 pieces_and_opaque, new_things, mixtures, order, program):
-        part()
-    lines = [lines_of(*each) for each in VECTORS]
+# --------------------------------------------------------------- writing back
+
+# the sheet of the packet TRIAL: one dwell, one target
+TRIAL_DWELL = kind3(DELTAS, 1, D24=0, D25=0, D10=65536, D11=65536)
+TRIAL_TARGET = kind4(DELTAS, {4: -128, 5: -64}, -351563, 359648438)
+TRIAL_SHEET = sheet_with(3, 92, TRIAL_DWELL, TRIAL_TARGET)
+
+
+def written_back():
+    """Accepted sheets.  The number in each P2 is 32 and the sizes of the
+    segments."""
+    for version in (1, 3):
+        of = 'version %d' % version
+        written('header %s' % of, sheet_with(version, 32), 'ok 0 0 0 32',
+                gives=packet(version))
+        written('mission %s' % of, sheet_with(version, 32 + 44, kind2()),
+                'ok 1 0 0 76', gives=packet(version, mission()))
+        written('dwell %s' % of, sheet_with(version, 32 + 48, kind3()),
+                'ok 1 1 0 80', gives=packet(version, dwell()))
+        written('target %s' % of,
+                sheet_with(version, 92, TRIAL_DWELL, TRIAL_TARGET),
+                'ok 1 1 1 92', gives=packet(version, TRIAL[32:]))
+        written('text %s' % of,
+                sheet_with(version, 32 + 28, kind5(3), kind6('abc')),
+                'ok 1 0 0 60', gives=packet(version, text('abc')))
+        written('opaque %s' % of,
+                sheet_with(version, 32 + 8, kind7(3, 3), kind6(b'\0\xFF\0')),
+                'ok 1 0 0 40', gives=packet(version, opaque(3, b'\0\xFF\0')))
+        written('job %s' % of, sheet_with(version, 32 + 73, kind8()),
+                'ok 1 0 0 105', gives=packet(version, job()))
+        written('test %s' % of, sheet_with(version, 32 + 19, kind9()),
+                'ok 1 0 0 51', gives=packet(version, test()))
+        written('location %s' % of, sheet_with(version, 32 + 28, kind10()),
+                'ok 1 0 0 60', gives=packet(version, location()))
+
+    for size in (0, 1, 32, 33, 65):
+        words = ''.join(chr(0x20 + k % 95) for k in range(size))
+        written('text piece %d' % size,
+                sheet_with(3, 57 + size, kind5(size), pieces_of(words)),
+                'ok 1 0 0 %d' % (57 + size), gives=packet(3, text(words)))
+    for size in (0, 31, 32, 33, 64):
+        body = bytes((7 * k + 3) % 256 for k in range(size))
+        written('opaque piece %d' % size,
+                sheet_with(1, 37 + size, kind7(12, size), pieces_of(body)),
+                'ok 1 0 0 %d' % (37 + size), gives=packet(1, opaque(12, body)))
+    kinds = (3, 4, 7, 8, 9, 11, 12, 101, 102)
+    written('opaque types',
+            sheet_with(3, 32 + 9 * 6,
+                       *[kind7(type_, 1) + kind6('\0') for type_ in kinds]),
+            'ok 9 0 0 86',
+            gives=packet(3, *[opaque(type_, b'\0') for type_ in kinds]))
+    written('text line ends',
+            sheet_with(3, 57 + 7, kind5(7), kind6('a\r\nb\fc\n')),
+            'ok 1 0 0 64', gives=packet(3, text('a\r\nb\fc\n')))
+
+    for version in (1, 3):
+        for name, words, count, size in (
+                ('absolute', ALL_ABSOLUTE, 1, 32 + 91 - 8 + 31),
+                ('deltas', ALL_DELTAS, 2, 32 + 91 + 2 * 27)):
+            made = packet(version, dwell(words, targets=[{}] * count))
+            written('all fields %s version %d' % (name, version),
+                    sheet_of(made), 'ok 1 1 %d %d' % (count, size),
+                    gives=made)
+    made = packet(3, dwell(ALL_ABSOLUTE + ' D32.18', targets=[{}]))
+    written('all fields absolute and D32.18', sheet_of(made), 'ok 1 1 1 147',
+            gives=made)
+    for words, changes, size in (
+            ('D28', {}, 50), ('D29 D30', {}, 52), ('D32.18', {}, 48),
+            ('D31', {'D31': 0}, 49), ('D12-D14', {'D12': 0, 'D14': 0}, 58)):
+        written('dwell with %s' % words,
+                sheet_with(3, 32 + size, kind3(words, **changes)),
+                'ok 1 1 0 %d' % (32 + size),
+                gives=packet(3, dwell(words, **changes)))
+    written('dwell with an announced zero target',
+            sheet_with(3, 32 + 60, kind3(ABSOLUTE + ' D32.7 D32.8', 1),
+                       kind4('', {2: 0, 3: 0, 7: 0, 8: 0}, 0, 0)),
+            'ok 1 1 1 92',
+            gives=packet(3, dwell(ABSOLUTE + ' D32.7 D32.8',
+                                  targets=[{2: 0, 3: 0, 7: 0, 8: 0}])))
+    written('longitude 360 is 0',
+            sheet_with(3, 32 + 64, kind3(ABSOLUTE, 2),
+                       kind4('', {2: 0x40000000, 3: 0xFFFFFFFB}, 45000000, 0),
+                       kind4('', {2: 0x80000000, 3: 0xFFFFFFFA}, -90000000,
+                             359999999)),
+            'ok 1 1 2 96',
+            gives=packet(3, absolute((0x40000000, 0xFFFFFFFB),
+                                     (0x80000000, 0xFFFFFFFA))))
+    written('D5 0 with positions announced',
+            sheet_with(3, 32 + 48, kind3(ABSOLUTE)), 'ok 1 1 0 80',
+            gives=packet(3, dwell(ABSOLUTE)))
+    written('new mode', sheet_with(3, 32 + 73, kind8(J14=91)), 'ok 1 0 0 105',
+            gives=packet(3, job(J14=91)))
+    written('D27 and J26 zero and shown',
+            sheet_with(3, 32 + 48 + 73, kind3(D27=0), kind8(J26=0)),
+            'ok 2 1 0 153', gives=packet(3, dwell(D27=0), job(J26=0)))
+
+    for name, edition in (('of reading 1 version 1', 1),
+                          ('of reading 3 version 1', 3)):
+        made = packet(1, dwell('D28-D30'), job(J14=91), opaque(3))
+        written('sheet %s' % name, sheet_of(made, edition), 'ok 3 1 0 164',
+                gives=made)
+    made = packet(3, TRIAL[32:], job(), dwell('D28-D30'))
+    written('sheet filled in', filled_in(sheet_of(made, 1), sheet_of(made)),
+            'ok 3 2 1 219', gives=made)
+
+    parts = EVERY_KIND
+    # 44 73 (83 + 62) (25 + 13) 19 28 (57 + 4) 7 48 5
+    for version in (1, 3):
+        made = packet(version, *parts)
+        written('mixture version %d' % version, sheet_of(made),
+                'ok 10 3 3 500', gives=made)
+    made = packet(3, *parts[::-1])
+    written('mixture backwards', sheet_of(made), 'ok 10 3 3 500', gives=made,
+            lend='exact')
+
+
+def rows_17():
+    want = 'no 17 0 0'
+    written('nothing', b'', want)
+    written('nothing to a buffer', b'', want, lend=40)
+    for kind in (0, 11, 255):
+        written('kind %d alone' % kind, bytes([kind]), want)
+        written('kind %d behind' % kind,
+                sheet_with(3, 32, bytes([kind])), want)
+        written('kind %d between' % kind,
+                sheet_with(3, 51, bytes([kind]) + bytes(14), kind9()), want,
+                lend=60)
+    for kind, made in ((2, kind2()), (3, kind3()), (4, TRIAL_TARGET),
+                       (5, kind5(0)), (6, kind6('abc')), (7, kind7(7, 0)),
+                       (8, kind8()), (9, kind9()), (10, kind10())):
+        written('kind %d cut by 1' % kind, sheet_with(3, 32, made[:-1]), want)
+        written('kind %d bare' % kind, sheet_with(3, 32, made[:1]), want)
+    written('header cut by 1', sheet_with(3, 32)[:-1], want)
+    written('header bare', b'\x01', want)
+    written('target cut by 1', TRIAL_SHEET[:-1], want)
+    written('piece cut by 1',
+            sheet_with(3, 60, kind5(3), kind6('abc'))[:-1], want)
+
+    written('no header', kind2(), want)
+    written('no header but a dwell', TRIAL_SHEET[33:], want)
+    written('header last', kind9() + sheet_with(3, 51), want)
+    written('header between', kind9() + sheet_with(3, 70, kind9()), want)
+    written('header twice', sheet_with(3, 32, sheet_with(3, 32)), want)
+    written('header twice and far', sheet_with(3, 51, kind9(),
+                                               sheet_with(3, 51)), want)
+    written('header among targets',
+            sheet_with(3, 92, TRIAL_DWELL, sheet_with(3, 92), TRIAL_TARGET),
+            want)
+
+
+def rows_18():
+    want = 'no 18 0 0'
+    two = kind3(ABSOLUTE, 2)
+    target = kind4('', {2: 0x40000000, 3: 0x40000000}, 45000000, 90000000)
+    for count in (0, 1, 3):
+        written('%d targets of 2' % count,
+                sheet_with(3, 96, two, target * count), want)
+    written('target where D5 is 0', sheet_with(3, 88, kind3(ABSOLUTE), target),
+            want)
+    written('D5 65535', sheet_with(3, 80, kind3(D5=65535)), want)
+    written('D5 65535 and a target',
+            sheet_with(3, 88, kind3(ABSOLUTE, D5=65535), target), want)
+    written('D5 257 and a target',
+            sheet_with(3, 88, kind3(ABSOLUTE, D5=257), target), want)
+    written('D5 256', sheet_with(3, 80, kind3(D5=256)), want)
+    written('target of another dwell',
+            sheet_with(3, 136, kind3(ABSOLUTE, 1), kind3(ABSOLUTE, 1),
+                       target * 2), want)
+    written('targets parted',
+            sheet_with(3, 115, two, target, kind9(), target), want)
+    written('target before its dwell',
+            sheet_with(3, 88, target, kind3(ABSOLUTE, 1)), want)
+    for name, before, target_too in (
+            ('header', b'', True), ('mission', kind2(), True),
+            ('test', kind9(), False), ('location', kind10(), True),
+            ('job', kind8(), False), ('empty text', kind5(0), False),
+            ('empty opaque', kind7(7, 0), True)):
+        if target_too:
+            written('target after %s' % name,
+                    sheet_with(3, 88, before, target), want)
+        written('piece after %s' % name,
+                sheet_with(3, 88, before, kind6('abc')), want)
+    written('piece after dwell', sheet_with(3, 80, kind3(), kind6('abc')),
+            want)
+    written('piece for a target',
+            sheet_with(3, 88, kind3(ABSOLUTE, 1), kind6('abc')), want)
+    written('piece after target',
+            sheet_with(3, 92, TRIAL_DWELL, TRIAL_TARGET, kind6('abc')), want)
+    written('target for a piece',
+            sheet_with(3, 60, kind5(3), target), want)
+    written('target after piece',
+            sheet_with(3, 60, kind5(3), kind6('abc'), target), want)
+    written('test for a piece',
+            sheet_with(3, 59, kind7(7, 3), kind9(), kind6('abc')), want)
+
+    # by turns in a text and in an opaque body
+    for index, (name, length, pieces) in enumerate((
+            ('count 0', 3, kind6('abc', count=0)),
+            ('count 0 of nothing', 0, kind6('')),
+            ('count 33', 33, kind6('x' * 32, count=33)),
+            ('count 33 and rest', 64, kind6('x' * 32, count=33)
+             + kind6('x' * 31)),
+            ('count 255', 255, kind6('x' * 32, count=255)),
+            ('count 20 where 32', 33, kind6('x' * 20) + kind6('x' * 13)),
+            ('count 31 where 32', 33, kind6('x' * 31) + kind6('x' * 2)),
+            ('count 32 second', 33, kind6('x') + kind6('x' * 32)),
+            ('count 31 where 30', 30, kind6('x' * 31)),
+            ('count 32 where 1', 33, kind6('x' * 32) * 2),
+            ('last piece missing', 33, kind6('x' * 32)),
+            ('last piece missing of 65', 65, kind6('x' * 32) * 2),
+            ('only piece missing', 1, b''),
+            ('piece too many', 32, kind6('x' * 32) + kind6('x')),
+            ('empty piece behind 32', 32, kind6('x' * 32) + kind6('')),
+            ('length one less', 2, kind6('abc')),
+            ('length one more', 4, kind6('abc')),
+            ('length low byte only', 0x01000003, kind6('abc')),
+            ('length 4294967295', 4294967295, b''),
+            ('length 4294967295 and pieces', 4294967295, kind6('x' * 32) * 2),
+            ('length low half only', 65539, kind6('abc')))):
+        size = length % 256
+        if index % 2:
+            written('text %s' % name,
+                    sheet_with(3, 57 + size, kind5(length), pieces), want)
+        else:
+            written('opaque %s' % name,
+                    sheet_with(3, 37 + size, kind7(7, length), pieces), want)
+    written('text length 4294967295', sheet_with(3, 57, kind5(4294967295)),
+            want)
+    written('text length one more',
+            sheet_with(3, 60, kind5(4), kind6('abc')), want)
+
+
+def rows_19():
+    want = 'no 19 0 0'
+    # the header
+    for name, changes in (('P2 one less', {'P2': 50}),
+                          ('P2 one more', {'P2': 52}), ('P2 0', {'P2': 0}),
+                          ('P2 low byte only', {'P2': 0x01000033}),
+                          ('P1 20', {'P1': '20'}), ('P1 3a', {'P1': '3a'}),
+                          ('P3 text', {'P3': 'F\x7F'}),
+                          ('P8 text', {'P8': '\0TATION 07'})):
+        written(name, sheet_with(3, 51, kind9(), **changes), want, lend=60)
+    written('P2 length of the sheet', sheet_with(3, 48, kind9()), want)
+    # text and values
+    written('M2 text', sheet_with(3, 76, kind2(M2='\0' * 12)), want)
+    written('M6 13', sheet_with(3, 76, kind2(M6=13)), want, lend=80)
+    written('M7 0', sheet_with(1, 76, kind2(M7=0)), want)
+    written('J3 text', sheet_with(3, 105, kind8(J3='RADAR\0')), want)
+    written('F1 text',
+            sheet_with(3, 57, kind5(0, f1='FIRST\tNAME')), want)
+    written('F3 text', sheet_with(3, 60, kind5(3), kind6('ab\x80')), want,
+            lend=70)
+    written('D4 2', sheet_with(3, 80, kind3(D4=2)), want)
+    target = {2: 0x40000000, 3: 0x40000000}
+    for j, value in ((6, -1001), (11, 101), (15, 5001)):
+        words = ABSOLUTE + ' D32.%d' % j
+        written('D32.%d %d' % (j, value),
+                sheet_with(3, 88 + (1 if j == 11 else 2), kind3(words, 1),
+                           kind4('', {**target, j: value}, 45000000,
+                                 90000000)), want)
+    written('latitude out',
+            sheet_with(3, 92, kind3(DELTAS, 1, D24=0x7FFFFFFF, D10=1, D25=0),
+                       kind4('', {4: 2, 5: 0}, 90000000, 0)), want)
+    written('target without a position pair',
+            sheet_with(3, 82, kind3('D32.1', 1), kind4('D32.1', {}, 0, 0)),
+            want)
+    written('target without fields',
+            sheet_with(3, 80, kind3(count=1), kind4('', {}, 0, 0)), want)
+
+    # marks
+    for mark in (0, 2):
+        written('mark %d of D27' % mark, sheet_with(3, 80, kind3(mark=mark)),
+                want, lend=90)
+        written('mark %d of J26' % mark, sheet_with(3, 105, kind8(mark=mark)),
+                want, lend=110)
+    written('mark 0 of D27 zeroed', sheet_with(3, 80, kind3(mark=0, D27=0)),
+            want)
+    written('mark 0 of J26 zeroed', sheet_with(3, 105, kind8(mark=0, J26=0)),
+            want)
+    written('mark 0 of D27 version 1', sheet_with(1, 80, kind3(mark=0)), want)
+    written('sheet of reading 1 version 3',
+            sheet_of(packet(3, dwell(), job()), 1), want, lend=200)
+
+    # filling, positions, fields that are not announced
+    for name, piece in (('first', kind6('abc', filling=b'\x01')),
+                        ('last', kind6('abc', filling=bytes(28) + b'\x80')),
+                        ('space', kind6('abc', filling=b' '))):
+        written('text filling %s' % name,
+                sheet_with(3, 60, kind5(3), piece), want)
+        written('opaque filling %s' % name,
+                sheet_with(3, 40, kind7(7, 3), piece), want, lend=50)
+    written('filling of the last piece',
+            sheet_with(3, 70, kind7(7, 33), kind6('x' * 32),
+                       kind6('x', filling=b'x')), want)
+    for name, latitude, longitude in (
+            ('latitude 1 more', -351562, 359648438),
+            ('latitude 1 less', -351564, 359648438),
+            ('latitude sign', 351563, 359648438),
+            ('latitude 0', 0, 359648438),
+            ('longitude 1 more', -351563, 359648439),
+            ('longitude 1 less', -351563, 359648437),
+            ('longitude signed', -351563, -351562),
+            ('longitude 0', -351563, 0)):
+        written(name, sheet_with(3, 92, TRIAL_DWELL,
+                                 kind4(DELTAS, {4: -128, 5: -64}, latitude,
+                                       longitude)), want)
+    written('longitude 360000000',
+            sheet_with(3, 88, kind3(ABSOLUTE, 1),
+                       kind4('', {2: 0x40000000, 3: 0xFFFFFFFB}, 45000000,
+                             360000000)), want)
+    written('positions swapped',
+            sheet_with(3, 88, kind3(ABSOLUTE, 1),
+                       kind4('', {2: 0x40000000, 3: 0x40000000}, 90000000,
+                             45000000)), want)
+    for name, changes in (('D10', {'D10': 1}), ('D12', {'D12': 0x80000000}),
+                          ('D23', {'D23': 1}), ('D28', {'D28': 1}),
+                          ('D31', {'D31': 255})):
+        written('unannounced %s' % name,
+                sheet_with(3, 80, kind3(**changes)), want)
+    for j in (1, 2, 3, 16, 18):
+        written('unannounced D32.%d' % j,
+                sheet_with(3, 92, TRIAL_DWELL,
+                           kind4(DELTAS, {4: -128, 5: -64, j: 1}, -351563,
+                                 359648438)), want)
+    written('unannounced D32.4',
+            sheet_with(3, 88, kind3(ABSOLUTE, 1),
+                       kind4('', {2: 0x40000000, 3: 0x40000000, 4: 1},
+                             45000000, 90000000)), want)
+
+    # masks
+    written('unannounced D5 of a target',
+            sheet_with(3, 86, kind3(ABSOLUTE, 1, without='D5'),
+                       kind4('', {2: 0x40000000, 3: 0x40000000}, 45000000,
+                             90000000)), want)
+    written('unannounced D5 0', sheet_with(3, 78, kind3(without='D5')), want)
+    for name, version, size, changes in (
+            ('zero', 3, 45, {'mask': 0}),
+            ('lacks D27', 3, 78, {'without': 'D27'}),
+            ('lacks D27 zeroed', 3, 78, {'without': 'D27', 'D27': 0}),
+            ('D12 only', 3, 84, {'more': 'D12'}),
+            ('reserved bit 0', 3, 80, {'mask': 0xFF0003C000000001}),
+            ('D28 version 1', 1, 82, {'more': 'D28'}),
+            ('D32.18 version 1', 1, 80, {'more': 'D32.18'}),
+            ('both position pairs', 3, 88, {'more': DELTAS + ' ' + ABSOLUTE})):
+        written('mask %s' % name, sheet_with(version, size, kind3(**changes)),
+                want)
+
+    # a kind 7 whose type has records of its own, or is unknown
+    for name, type_, body in (
+            ('1', 1, mission()[5:]), ('2', 2, dwell()[5:]),
+            ('2 with a target', 2, TRIAL[37:]), ('2 empty', 2, b''),
+            ('5', 5, job()[5:]), ('6', 6, text('abc')[5:]),
+            ('10', 10, test()[5:]), ('13', 13, location()[5:]),
+            ('0', 0, b''), ('14', 14, b'abc'), ('200', 200, b'abc'),
+            ('255', 255, b'')):
+        written('opaque type %s' % name,
+                sheet_with(3, 37 + len(body), kind7(type_, len(body)),
+                           pieces_of(body)), want)
+
+
+def rows_20():
+    short = 'no 20 0 0'
+    written('header to nothing', sheet_with(3, 32), short, lend=0,
+            gives=packet(3))
+    written('header to 31', sheet_with(3, 32), short, lend='short',
+            gives=packet(3))
+    written('header to 32', sheet_with(3, 32), 'ok 0 0 0 32', lend='exact',
+            gives=packet(3))
+    written('header to 33', sheet_with(3, 32), 'ok 0 0 0 32', lend=33,
+            gives=packet(3))
+    written('header to 100', sheet_with(3, 32), 'ok 0 0 0 32', lend=100,
+            gives=packet(3))
+    written('trial to nothing', TRIAL_SHEET, short, lend=0, gives=TRIAL)
+    written('trial to 1', TRIAL_SHEET, short, lend=1, gives=TRIAL)
+    written('trial to the header', TRIAL_SHEET, short, lend=32, gives=TRIAL)
+    written('trial to 91', TRIAL_SHEET, short, lend='short', gives=TRIAL)
+    written('trial to 92', TRIAL_SHEET, 'ok 1 1 1 92', lend='exact',
+            gives=TRIAL)
+    written('trial to 93', TRIAL_SHEET, 'ok 1 1 1 92', lend=93, gives=TRIAL)
+    written('trial to 300', TRIAL_SHEET, 'ok 1 1 1 92', lend=300, gives=TRIAL)
+    # here the packet is longer than the sheet
+    many = packet(1, *[test()] * 9)
+    for name, lend, want in (('203', 203, 'ok 9 0 0 203'), ('202', 202, short),
+                             ('the sheet', 168, short)):
+        written('nine tests to %s' % name, sheet_of(many), want, lend=lend,
+                gives=many)
+
+
+def order_of_writing():
+    """Two faults at once: the first row over the whole sheet."""
+    lone = kind6('abc')                                 # 18
+    marked = kind3(mark=0)                              # 19
+    for name, records in (
+            ('early 18 late kind', (lone, b'\0')),
+            ('early 18 late cut', (lone, kind9()[:-1])),
+            ('early 18 late header', (lone, sheet_with(3, 66))),
+            ('4 GB and cut', (kind7(7, 4294967295), kind9()[:5])),
+            ('D5 65535 and kind 11', (kind3(D5=65535), b'\x0B')),
+            ('early 19 late kind', (marked, b'\xFF')),
+            ('early 19 late cut', (marked, kind2()[:39]))):
+        written('17 before %s' % name, sheet_with(3, 80, *records),
+                'no 17 0 0')
+    written('17 before P2', sheet_with(3, 99, b'\x0B'), 'no 17 0 0', lend=99)
+    written('17 before 20', sheet_with(3, 51, kind9()[:-1]), 'no 17 0 0',
+            lend=0)
+    for name, records in (
+            ('early 19 late piece', (marked, lone)),
+            ('early 19 late target', (kind2(M6=0), TRIAL_TARGET)),
+            ('early 19 late length', (kind7(200, 0), kind5(1))),
+            ('4 GB of type 200', (kind7(200, 4294967295),)),
+            ('filling', (kind5(4), kind6('abc', filling=b'x'))),
+            ('mark', (kind3(ABSOLUTE, 1, mark=0),)),
+            ('unannounced D5', (kind3(without='D5', D5=1),)),
+            ('unannounced D5 and mask', (kind3(mask=0, D5=7),))):
+        written('18 before %s' % name, sheet_with(3, 80, *records),
+                'no 18 0 0')
+    written('18 before P2', sheet_with(3, 0, lone), 'no 18 0 0', lend=99)
+    written('18 before 20', sheet_with(3, 57, kind5(1)), 'no 18 0 0', lend=0)
+    for name, made in (
+            ('P2', sheet_with(3, 50, kind9())),
+            ('mark', sheet_with(3, 80, marked)),
+            ('filling', sheet_with(3, 60, kind5(3),
+                                   kind6('abc', filling=b'\x01'))),
+            ('position', sheet_with(3, 92, TRIAL_DWELL, kind4(
+                DELTAS, {4: -128, 5: -64}, -351563, 359648437)))):
+        written('19 before 20 %s' % name, made, 'no 19 0 0', lend=0)
+    written('19 before 20 by one', sheet_with(3, 80, marked), 'no 19 0 0',
+            lend=79)
+
+
+def long_sheets():
+    """Sheets that would fill the file; they give no vector."""
+    def answer(sheet_, lend=70000):
+        return write(sheet_, bytes(lend))[0]
+    # 3447 tests of 19 bytes, and an opaque segment of 5 and its body
+    tests = kind9() * 3447
+    for body, lend, want in ((6, 65536, ('ok', 3448, 0, 0, 65536)),
+                             (6, 65535, ('no', 20, 0, 0)),
+                             (7, 70000, ('no', 19, 0, 0)),
+                             (7, 0, ('no', 19, 0, 0))):
+        made = sheet_with(3, 65530 + body, tests, kind7(7, body),
+                          pieces_of(bytes(body)))
+        assert answer(made, lend) == want
+    for size, want in ((65499, ('ok', 1, 0, 0, 65536)),
+                       (65500, ('no', 19, 0, 0)),
+                       (200000, ('no', 19, 0, 0))):
+        made = sheet_with(3, 37 + size, kind7(7, size), pieces_of(bytes(size)))
+        assert answer(made) == want
+    # 16362 targets of 4 bytes fill a packet; D5 65535 with all its targets
+    target = kind4('', {4: 0, 5: 0}, 0, 0)
+    centre = dict(D24=0, D25=0)
+    for count, want in ((16362, ('ok', 1, 1, 16362, 65536)),
+                        (16363, ('no', 19, 0, 0)),
+                        (65535, ('no', 19, 0, 0))):
+        made = sheet_with(3, 88 + 4 * count, kind3(DELTAS, count, **centre),
+                          target * count)
+        assert answer(made) == want
+
+
+# -------------------------------------------------- both editions of a packet
+
+COMPARED = []
+
+
+def lines_of_editions(name, packet_):
+    """The two lines of a comparison."""
+    return ('%s: %s\n' % (name, packet_.hex()),
+            '%s: %s\n' % (name, editions(packet_)))
+
+
+def compared(name, packet_, want):
+    """want: the line that is expected of the two readings."""
+    check_name(name, COMPARED)
+    assert len(packet_) < 1000, name
+    given = editions(packet_)
+    assert given == want, (name, given, want)
+    COMPARED.append((name, packet_))
+
+
+def compared_packets():
+    # each of the four new things alone
+    compared('type 3', packet(3, opaque(3, b'abc')), 'new no 15 1 0')
+    compared('type 3 empty', packet(3, opaque(3)), 'new no 15 1 0')
+    for words, field in (('D28', 29), ('D29', 28), ('D30', 28),
+                         ('D28 D29', 30), ('D28 D30', 29), ('D29 D30', 28)):
+        compared('angles %s' % words, packet(3, dwell(words)),
+                 'new no 15 1 %d' % field)
+    compared('angles none', packet(3, dwell()), 'alike ok 1 1 0 121')
+    compared('angles all', packet(3, dwell('D28-D30')), 'alike ok 1 1 0 121')
+    compared('D32.18', packet(3, dwell('D32.18')), 'new no 15 1 49')
+    compared('D32.18 with a target',
+             packet(3, dwell(ABSOLUTE + ' D32.18', targets=[{}])),
+             'new no 15 1 49')
+    compared('D32.17 with a target',
+             packet(3, dwell(ABSOLUTE + ' D32.16 D32.17', targets=[{}])),
+             'alike ok 1 1 1 166')
+    for mode in (91, 92, 93, 96, 97, 101, 102, 103, 104, 111, 112, 113, 120,
+                 121, 122, 123):
+        compared('mode %d' % mode, packet(3, job(J14=mode)), 'new no 15 1 14')
+    for mode in (0, 90, 94, 95, 98, 100, 105, 110, 114, 119, 124, 255):
+        compared('mode %d' % mode, packet(3, job(J14=mode)),
+                 'alike ok 1 0 0 103')
+    compared('mode 91 in J15', packet(3, job(J13=91, J15=0x5B00, J14=0)),
+             'alike ok 1 0 0 103')
+
+    # in a later segment, two in one mask, two segments
+    before = (mission(), TRIAL[32:], job(), text('abc'))
+    compared('later type 3', packet(3, *before, opaque(3)), 'new no 15 5 0')
+    compared('later angles', packet(3, *before, dwell('D28')), 'new no 15 5 29')
+    compared('later D32.18', packet(3, *before, dwell('D32.18')),
+             'new no 15 5 49')
+    compared('later mode', packet(3, *before, job(J14=123)), 'new no 15 5 14')
+    compared('mode in the last of three jobs',
+             packet(3, job(J14=90), job(J14=94), job(J14=91)), 'new no 15 3 14')
+    compared('angles and D32.18', packet(3, dwell('D28 D32.18')),
+             'new no 15 1 29')
+    compared('angles D29 D30 and D32.18',
+             packet(3, dwell('D29 D30 D32.18')), 'new no 15 1 28')
+    compared('all angles and D32.18',
+             packet(3, dwell('D28-D30 D32.18')), 'new no 15 1 49')
+    for name, parts, want in (
+            ('D32.18 then type 3', (dwell('D32.18'), opaque(3)),
+             'new no 15 1 49'),
+            ('type 3 then angles', (opaque(3), dwell('D30')), 'new no 15 1 0'),
+            ('mode then angles', (test(), job(J14=120), dwell('D28')),
+             'new no 15 2 14'),
+            ('D32.18 then angles', (dwell(), dwell('D32.18'), dwell('D28')),
+             'new no 15 2 49'),
+            ('mode then type 3 then D32.18',
+             (opaque(4), job(J14=97), opaque(3), dwell('D32.18')),
+             'new no 15 2 14')):
+        compared(name, packet(3, *parts), want)
+
+    # nothing new: D27 and J26 withheld
+    compared('bare header', packet(3), 'alike ok 0 0 0 33')
+    compared('P1 39', packet(3, P1='39'), 'alike ok 0 0 0 33')
+    compared('trial', TRIAL, 'alike ok 1 1 1 166')
+    compared('D27 ffff', packet(3, dwell(D26=0xFFFF, D27=0xFFFF)),
+             'alike ok 1 1 0 121')
+    compared('D27 0001', packet(3, dwell(D27=1)), 'alike ok 1 1 0 121')
+    compared('D27 0100', packet(3, dwell(D27=0x0100)), 'alike ok 1 1 0 121')
+    compared('D27 0', packet(3, dwell(D27=0)), 'alike ok 1 1 0 121')
+    compared('J26 ff', packet(3, job(J25=255, J26=255, J27=255)),
+             'alike ok 1 0 0 103')
+    compared('J26 0', packet(3, job(J26=0)), 'alike ok 1 0 0 103')
+    compared('dwells and jobs',
+             packet(3, dwell(D27=0x1234), job(J26=1), TRIAL[32:],
+                    dwell('D28-D30', D27=0xFEDC), job(J26=128), job(J26=2)),
+             'alike ok 6 3 1 %d' % (33 + 3 * 88 + 45 + 3 * 70))
+    for version in (1, 3):
+        compared('mixture version %d' % version, packet(version, *EVERY_KIND),
+                 'alike ok 10 3 3 686')
+        compared('all fields version %d' % version,
+                 packet(version, dwell(ALL_DELTAS, targets=[{}, {}])),
+                 'alike ok 1 1 2 211')
+    compared('neither dwell nor job',
+             packet(3, mission(), test(), location(), text('x' * 33),
+                    opaque(101, bytes(64))),
+             'alike ok 5 0 0 %d' % (33 + 40 + 15 + 24 + 25 + 68 + 6 + 68))
+
+    # version 1: nothing is new, nothing is withheld
+    compared('version 1 header', packet(1), 'alike ok 0 0 0 33')
+    compared('version 1 type 3', packet(1, opaque(3, b'abc')),
+             'alike ok 1 0 0 73')
+    compared('version 1 modes', packet(1, job(J14=91), job(J14=123)),
+             'alike ok 2 0 0 173')
+    compared('version 1 dwell', packet(1, dwell('D28-D30', D27=0xABCD)),
+             'alike ok 1 1 0 121')
+    compared('version 1 angles', packet(1, dwell('D28')), 'no 11 1 29')
+    compared('version 1 D32.18', packet(1, dwell('D32.18')), 'no 11 1 49')
+
+    # refused by the Edition 3 reading, with or without something new
+    for name, made, want in (
+            ('nothing', b'', 'no 2 0 0'),
+            ('P1 20', packet(3, P1='20'), 'no 3 0 0'),
+            ('P2', packet(3, opaque(3), P2=38), 'no 4 0 0'),
+            ('P8', packet(3, P8='\0' * 10), 'no 5 0 8'),
+            ('left 3', packet(3, opaque(3), b'\x03\0\0'), 'no 6 2 0'),
+            ('type 77', packet(3, opaque(3), segment(77, b'')), 'no 7 2 0'),
+            ('S2 of type 3', packet(3, opaque(3, b'', s2=6)), 'no 8 1 0'),
+            ('size of a job', packet(3, job(J14=91, size=74)), 'no 9 1 0'),
+            ('J3', packet(3, job(J14=91, J3='\0ADAR9')), 'no 10 1 3'),
+            ('mask', packet(3, dwell('D28 D32.2 D32.18')), 'no 11 1 34'),
+            ('size of a dwell', packet(3, dwell('D28', size=49)),
+             'no 12 1 0'),
+            ('D4', packet(3, dwell('D32.18', D4=2)), 'no 13 1 4'),
+            ('latitude', packet(3, job(J14=91),
+                                by_deltas(1, 0x7FFFFFFF, 2)),
+             'no 14 2 35')):
+        compared('refused %s' % name, made, want)
+
+
+def save(folder, lines):
     for index, name in enumerate(('stdin', 'stdout')):
-        with open(os.path.join(sys.argv[1], name), 'w', newline='\n') as out:
+        with open(os.path.join(folder, name), 'w', newline='\n') as out:
             out.writelines(line[index] for line in lines)
     print('%d vectors' % len(lines), file=sys.stderr)
+
+
+def programs(crates):
+    """The packet of every kind, its Edition 3 sheet, and the way back."""
+    given = packet(3, *EVERY_KIND)
+    answer, sheet = read(3, given, bytes(686))
+    assert answer == ('ok', 10, 3, 3, 686)
+    for name, stdin, stdout in (('gmti_sheet', given, sheet),
+                                ('gmti_write', sheet, given)):
+        for file, content in (('stdin', stdin), ('stdout', stdout)):
+            with open(os.path.join(crates, name, file), 'wb') as out:
+                out.write(content)
+
+
+def main():
+    if len(sys.argv) == 3 and sys.argv[1] == 'editions':
+        compared_packets()
+        save(sys.argv[2], [lines_of_editions(*each) for each in COMPARED])
+        return
+    if len(sys.argv) == 3 and sys.argv[1] == 'programs':
+        programs(sys.argv[2])
+        return
+    for part in (call_and_header, segment_heads, texts, masks,
+                 sizes_of_dwells, values, positions_of_targets, shapes,
+                 pieces_and_opaque, new_things, mixtures, order, program,
+                 written_back, rows_17, rows_18, rows_19, rows_20,
+                 order_of_writing, long_sheets):
+        part()
+    save(sys.argv[1], [lines_of(*each) for each in VECTORS])
 
 
 if __name__ == '__main__':

@@ -1,18 +1,24 @@
-"""A reference reader of GMTI packets: one packet to one sheet.
+"""A reference reader and writer of GMTI packets: one packet to one sheet and
+back.
 
 This file follows document 01 ("GMTI packets of Editions 1 and 3, and their
 sheet") line by line, with no regard for speed.  Words in quotation marks are
 that document's.  Its only use is to be compared: with the page, by a person
 who knows the standard, and with the product, by running both on the same
-packets.
+packets and sheets.
 
     read(edition, packet, lent) -> (answer, left)
+    write(sheet, lent)          -> (answer, left)
 
-answer is ('ok', segments, dwells, targets, sheet_length)
+answer is ('ok', segments, dwells, targets, length of the sheet or packet)
        or ('no', number, segment, field),
-left   is what the lent sheet holds afterwards.
+left   is what the lent sheet or packet buffer holds afterwards.
 
-    printed(packet) -> what the program prints for that packet.
+    filled_in(sheet1, sheet3) -> the Edition 1 sheet of a packet with the
+                                 withheld fields of its Edition 3 sheet.
+    editions(packet) -> a line that says how the two readings of that packet
+                        compare; all that demand 3 claims of it is asserted.
+    printed(packet)  -> what the program prints for that packet.
 """
 
 from fractions import Fraction
@@ -446,6 +452,268 @@ def read_target(segment, dwell, target):
                   + latitude_microdegrees(latitude).to_bytes(4, 'big',
                                                              signed=True)
                   + longitude_microdegrees(longitude).to_bytes(4, 'big'))
+
+
+# ---------------------------------------------------------------- the writer
+
+def write(sheet, lent):
+    try:
+        segments, dwells, targets, packet = examine_sheet(sheet)
+        # Row 20: "packet buffer too short"
+        if len(packet) > len(lent):
+            raise Refused(20)
+    except Refused as refused:
+        # "Writer refusals have segment and field 0"; they leave the buffer
+        return refused.answer, bytes(lent)
+    # "(the writer: packet length); bytes after it are unchanged"
+    return (('ok', segments, dwells, targets, len(packet)),
+            packet + bytes(lent[len(packet):]))
+
+
+def examine_sheet(sheet):
+    """Rows 17 to 19, "in that order over the whole sheet": each of them has
+    looked at every record before the next one is tried.  Gives the counts and
+    the packet."""
+    groups = grouped(records_of(sheet))
+    (_, header, _), rest = groups[0], groups[1:]
+    spelt = [spell(*group) for group in rest]
+
+    # Row 19: "spelt bytes above 65,536 (even where an S2 won't fit)".  The
+    # length is known before any S2 is set down, so that none can be cut.
+    if 32 + sum(5 + len(body) for _, body in spelt) > 65536:
+        raise Refused(19)
+
+    # "The writer spells the packet: the header, then each segment with S2
+    # worked out and only announced fields."  P2 is a field of the header and
+    # is spelt as it stands.
+    packet = header + b''.join(
+        bytes([type_]) + (5 + len(body)).to_bytes(4, 'big') + body
+        for type_, body in spelt)
+
+    # Row 19: "refused, or read to another sheet", by "the Edition 3 reading
+    # of the spelt bytes, given a sheet as long".  "A reading's sheet is the
+    # lent bytes up to the sheet length that it answers."
+    answer, left = read(3, packet, bytes(len(sheet)))
+    if answer[0] == 'no' or left[:answer[4]] != sheet:
+        raise Refused(19)
+    _, segments, dwells, targets, _ = answer
+    return segments, dwells, targets, packet
+
+
+def records_of(sheet):
+    """Row 17: "empty, unknown kind, cut record, kind 1 not exactly first".
+    Gives the kind and the body of each record."""
+    records, place = [], 0
+    while place < len(sheet):
+        kind = sheet[place]
+        if kind not in RECORD_BODY:
+            raise Refused(17)
+        body = bytes(sheet[place + 1:place + 1 + RECORD_BODY[kind]])
+        if len(body) < RECORD_BODY[kind]:
+            raise Refused(17)
+        records.append((kind, body))
+        place += 1 + RECORD_BODY[kind]
+    # the first record is of kind 1 and no other is; there is a first
+    if [at for at, (kind, _) in enumerate(records) if kind == 1] != [0]:
+        raise Refused(17)
+    return records
+
+
+def called_for(kind, body):
+    """The records that a record calls for: of each its kind and, of a piece,
+    its count.  They are given one by one, since a length can claim 4 GB."""
+    if kind == 3:
+        # the D5 that is stored, whatever the mask announces
+        place = 8 + width_of([(n, w) for n, w in D if n < 5])
+        for _ in range(unsigned(body[place:place + 2])):
+            yield 4, None
+    elif kind in (5, 7):
+        # both end in the length of what their pieces carry, "all full but the
+        # last"
+        left = unsigned(body[-4:])
+        while left > 0:
+            yield 6, min(left, 32)
+            left -= 32
+
+
+def grouped(records):
+    """Row 18: "a kind 3, 5 or 7 not followed directly by exactly the kind 4 or
+    6 records, with the counts, that it calls for; a kind 4 or 6 anywhere
+    else".  Gives each other record with the bodies that belong to it."""
+    groups, place = [], 0
+    while place < len(records):
+        kind, body = records[place]
+        place += 1
+        # one record more than called for is met here, too
+        if kind in (4, 6):
+            raise Refused(18)
+        belonging = []
+        for kind_due, count_due in called_for(kind, body):
+            if place == len(records):
+                raise Refused(18)
+            follower, its_body = records[place]
+            if follower != kind_due:
+                raise Refused(18)
+            if follower == 6 and its_body[0] != count_due:
+                raise Refused(18)
+            belonging.append(its_body)
+            place += 1
+        groups.append((kind, body, belonging))
+    return groups
+
+
+def only_announced(fields, announced, octets):
+    """Of fields at full widths those that the mask announces."""
+    values = split(fields, octets)
+    return b''.join(values[n] for n, _ in fields if n in announced)
+
+
+def spell(kind, body, belonging):
+    """The type and the body of the segment that a record other than the header
+    stands for.  Marks, positions, lengths and filling are not spelt: the
+    reading makes them again, and row 19 compares."""
+    if kind == 3:
+        announced = announced_fields(unsigned(body[:8]))
+        full = width_of(D32)        # the position stands behind
+        return 2, (body[:8] + only_announced(D, announced, body[8:-1])
+                   + b''.join(only_announced(D32, announced, target[:full])
+                              for target in belonging))
+    carried = b''.join(piece[1:1 + piece[0]] for piece in belonging)
+    if kind == 5:
+        return 6, body[:20] + carried
+    if kind == 7:
+        return body[0], carried
+    if kind == 8:
+        return 5, body[:-1]
+    return {2: 1, 9: 10, 10: 13}[kind], body
+
+
+# ------------------------------------------------------------- both editions
+
+def withheld_places(sheet):
+    """Of each kind 3 and kind 8 record of a sheet that a reading made: the
+    place of its D27 or J26, the place after it and the place of its mark."""
+    before_d27 = 1 + 8 + width_of([(n, w) for n, w in D if n < 27])
+    before_j26 = 1 + width_of([(n, w) for n, w in J if n < 26])
+    places, place = [], 0
+    for kind, body in records_of(sheet):
+        # "The last byte of a kind 3 is the mark of D27, that of a kind 8 the
+        # mark of J26."
+        mark = place + len(body)
+        if kind == 3:
+            places.append((place + before_d27, place + before_d27 + 2, mark))
+        if kind == 8:
+            places.append((place + before_j26, place + before_j26 + 1, mark))
+        place += 1 + len(body)
+    return places
+
+
+def filled_in(sheet1, sheet3):
+    """Demand 3: "Copy into it every D27 and J26 of the Edition 3 sheet and
+    mark them as shown"."""
+    assert len(sheet1) == len(sheet3)
+    filled = bytearray(sheet1)
+    for first, after, mark in withheld_places(sheet3):
+        filled[first:after] = sheet3[first:after]
+        filled[mark] = 1
+    return bytes(filled)
+
+
+def new_in_segment(type_, body):
+    """"Four things are new in Edition 3, told by the packet's bytes alone,
+    with the field named"; None where a segment holds none of them.  "Where
+    one mask holds two of them, the earlier in this list is named."  The bytes
+    are counted off here and not taken from the tables above, so that row 15
+    is held to something else than itself."""
+    # "a type 3 segment (0)"
+    if type_ == 3:
+        return 0
+    if type_ == 2:
+        # "a mask with some but not all of D28-30 (the lowest-numbered
+        # unset)": bits 37, 36 and 35, in the fourth byte
+        unset = [field for field, bit in ((28, 0x20), (29, 0x10), (30, 0x08))
+                 if not body[3] & bit]
+        if len(unset) in (1, 2):
+            return unset[0]
+        # "D32.18 set (49)": bit 16, in the sixth byte
+        if body[5] & 0x01:
+            return 49
+    # "a job definition with J14 among 91-93, 96, 97, 101-104, 111-113,
+    # 120-123 ... (14)": 45 bytes stand before J14
+    if type_ == 5:
+        mode = body[45]
+        if (91 <= mode <= 93 or mode in (96, 97) or 101 <= mode <= 104
+                or 111 <= mode <= 113 or 120 <= mode <= 123):
+            return 14
+    return None
+
+
+def first_new(packet):
+    """The first segment of an accepted packet that holds something new, and
+    the field; None where there is none.  Only a version 3 packet can."""
+    if packet[:1] != b'3':
+        return None
+    place, segment = 32, 0
+    while place < len(packet):
+        segment += 1
+        s2 = unsigned(packet[place + 1:place + 5])
+        field = new_in_segment(packet[place], packet[place + 5:place + s2])
+        if field is not None:
+            return segment, field
+        place += s2
+    return None
+
+
+def editions(packet):
+    """What demand 3 says of a packet:
+    'no NUMBER SEGMENT FIELD'  the Edition 3 reading refuses it,
+    'new no 15 SEGMENT FIELD'  the Edition 1 reading alone refuses it,
+    'alike ok SEGMENTS DWELLS TARGETS LENGTH'  both accept it.
+    Each claim of the demand is asserted.  A version 1 packet holds nothing
+    new and reads "alike under both readings, D27 and J26 shown"."""
+    # No sheet is longer: a target of 4 bytes gives 45, and nothing gives more
+    # for a byte.
+    long_enough = 33 + 12 * len(packet)
+    answer, left = read(3, packet, bytes(long_enough))
+    if answer[0] == 'no':
+        assert answer[1] != 16
+        return 'no %d %d %d' % answer[1:]
+    _, segments, dwells, targets, length = answer
+    sheet3 = left[:length]
+    new = first_new(packet)
+
+    # "whatever the lent sheets held"
+    for lent in (b'\xAA' * length, b'\x55' * long_enough):
+        old_answer, old_left = read(1, packet, lent)
+        if new is not None:
+            # "refuses with 15 and names the first segment that holds any, and
+            # the field"
+            assert (old_answer, old_left) == (('no', 15) + new, lent)
+            continue
+        # "the same counts and length"
+        assert old_answer == answer and old_left[length:] == lent[length:]
+        sheet1 = old_left[:length]
+
+        # "equals the Edition 3 sheet in every byte but those of fields D27
+        # and J26 and their marks, which are zero"
+        due = bytearray(sheet3)
+        for first, after, mark in withheld_places(sheet3):
+            assert sheet3[mark] == 1
+            if packet[:1] == b'3':
+                due[first:after] = bytes(after - first)
+                due[mark] = 0
+        assert sheet1 == due
+
+        # "given the sheet so filled in and a buffer at least as long as the
+        # packet, whatever it held, the writer accepts and returns the same
+        # packet with the same counts"
+        for buffer in (b'\xAA' * len(packet), b'\x55' * (len(packet) + 9)):
+            assert write(filled_in(sheet1, sheet3), buffer) == (
+                ('ok', segments, dwells, targets, len(packet)),
+                packet + buffer[len(packet):])
+    if new is not None:
+        return 'new no 15 %d %d' % new
+    return 'alike ok %d %d %d %d' % (segments, dwells, targets, length)
 
 
 # --------------------------------------------------------------- the program

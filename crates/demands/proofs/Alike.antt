@@ -6,6 +6,7 @@ use native.Mathlib.Omega.{arith}
 use mathlib.Core.Path.{_≡_, refl, sym, ap, ap₂}
 use mathlib.Core.Bool.{false}
 use mathlib.Core.List.{List, [], _∷_, _++_}
+use borrow.Author.Tests.{eq-eqb}
 use lib.Dec.{eqb}
 use lib.ListN.{length, length-append}
 use Rattle.octets.specs.Layout.{total, zeroed}
@@ -47,7 +48,7 @@ filled-one : {q r : Record} → Alike q r → filledRecord q r ≡ r
 unfolding filledRecord total
 filled-one (dwell b h) = ap (λ (x : List ℕ). record { kind = 3; body = x }) (filled-body dwellBodyWidths 27 32 b (omega arith) h refl)
 filled-one (job b h) = ap (λ (x : List ℕ). record { kind = 8; body = x }) (filled-body jobBodyWidths 26 29 b (omega arith) h refl)
-filled-one (other h3 h8) = rw (h3, h8)
+filled-one (other {r = r} h3 h8) = rw (eq-eqb (r .kind) (r .kind) refl, h3, h8)
 
 -- so with all of them
 pub alike-filled : {qs rs : List Record} → AllAlike qs rs → filledRecords qs rs ≡ rs

@@ -16,7 +16,7 @@ use Rattle.format.specs.declared.Answer.the-variants.{Accepted, Refused}
 use Rattle.format.specs.Answer.{Outcome, outcome, leftBy}
 use Rattle.format.specs.Rows.{firstRow, headerRows}
 use Rattle.format.specs.Reader.{parsed, readingOf, dwellsIn, targetsIn, sheet, segmentsAnswer, readingAnswer, read}
-use Rattle.format.specs.Writer.{writerRows, spell, writingAnswer, write}
+use Rattle.format.specs.Writer.{writerRows, spell, writerAnswer, writingAnswer, write}
 use Rattle.demands.specs.First.{none, of-header, of-segment, of-end}
 use Rattle.demands.specs.Demands.{Reads, Writes, Demand1}
 use Rattle.demands.proofs.Walk.{Stopped, walk}
@@ -61,10 +61,7 @@ writes x lent = go (firstRow (writerRows x (length lent))) refl
     answered a = outcome a (leftBy a (spell x) lent)
 
     go : (c : Check) → firstRow (writerRows x (length lent)) ≡ c
-        → Writes x lent (answered (elim c [
-          | Passed ↦ Accepted (length (parsed 3 (spell x) .segments)) (dwellsIn (parsed 3 (spell x) .segments)) (targetsIn (parsed 3 (spell x) .segments)) (length (spell x))
-          | Failed number field ↦ Refused number 0 0
-        ]))
+        → Writes x lent (answered (writerAnswer x c))
     go Passed e = Writes.set-out e
     go (Failed number field) e = Writes.turned-down e
 

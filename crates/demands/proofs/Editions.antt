@@ -3,9 +3,9 @@
 use Prim.Native.Nat.{ℕ, _+_, _≤_}
 use native.Mathlib.Omega.{arith}
 use mathlib.Core.Path.{_≡_, refl, sym, ap, ap₂, _∙_}
-use mathlib.Core.Bool.{true, false}
+use mathlib.Core.Bool.{true, false, cond}
 use mathlib.Core.List.{List, _∷_}
-use lib.ListN.{length, take, drop, length-drop}
+use lib.ListN.{length, getD, take, drop, length-drop}
 use lib.Seq.{take-at}
 use Rattle.octets.specs.Layout.{over}
 use Rattle.format.specs.declared.Check.{Check}
@@ -19,14 +19,16 @@ use Rattle.format.specs.Answer.{outcome, leftBy}
 use Rattle.format.specs.Rows.{firstRow, headerRows}
 use Rattle.format.specs.New.{New, nothing, found, firstNew}
 use Rattle.format.specs.Reader.{Parsed, parsed, readingOf, sheet, segmentsAnswer, readingAnswer, read}
-use Rattle.format.specs.Writer.{Listed, write}
+use Rattle.format.specs.Writer.{Listed, listed, write}
 use Rattle.format.proofs.Records.{listed-sheet}
 use Rattle.demands.specs.Filled.{withheldRecords, withheldSheet, filledRecords, filledIn}
+use Rattle.demands.specs.Places.{isWithheldAt}
 use Rattle.demands.specs.Demands.{ReadAlike, OlderReading, Demand3}
 use Rattle.format.proofs.Segments.{parse-sound}
 use Rattle.format.proofs.Acceptance.{Acceptable, same-length, header-sized, read-only}
 use Rattle.demands.proofs.OlderWalk.{Older, older-walk}
 use Rattle.demands.proofs.Alike.{AllAlike, next, alike-withheld, alike-filled, alike-length}
+use Rattle.demands.proofs.Places.{withheld-at}
 use Rattle.demands.proofs.OlderRecords.{header-alike, packet-alike}
 use Rattle.demands.proofs.Written.{demand-2}
 
@@ -35,7 +37,7 @@ abbrev answerBy : Check → Parsed → ℕ → ℕ → Answer
 answerBy c p n m = elim c [ Passed ↦ segmentsAnswer p n m | Failed number field ↦ Refused number 0 field ]
 
 -- of the lent sheet, so many bytes as the answer says are the sheet
-read-sheet : (edition : ℕ) (l lent : List ℕ) (s d t n : ℕ) → read edition l lent .answer ≡ Accepted s d t n → take n (read edition l lent .left) ≡ sheet edition l
+pub read-sheet : (edition : ℕ) (l lent : List ℕ) (s d t n : ℕ) → read edition l lent .answer ≡ Accepted s d t n → take n (read edition l lent .left) ≡ sheet edition l
 unfolding read leftBy over
 read-sheet edition l lent s d t n a =
     rw a (take-at (sheet edition l) (drop (length (sheet edition l)) lent) n (same-length _ _ _ _ s d t n (read-only edition l lent s d t n a .1)))
@@ -77,6 +79,11 @@ module _ (l : List ℕ) (version-3 : version l ≡ 3) where
     sheet-withheld : sheet 1 l ≡ withheldSheet (sheet 3 l)
     unfolding withheldSheet sheet
     sheet-withheld = ap recordBytes (alike-withheld sheets-alike) ∙ ap (λ (x : Listed). recordBytes (withheldRecords (x .records))) (sym (listed-sheet 3 l))
+
+    -- that is, byte by byte
+    sheet-bytes : (i : ℕ) → getD (sheet 1 l) i 0 ≡ cond (isWithheldAt (listed (sheet 3 l) .records) i) 0 (getD (sheet 3 l) i 0)
+    unfolding sheet
+    sheet-bytes i = ap (λ (x : List ℕ). getD x i 0) sheet-withheld ∙ withheld-at (sheet 3 l) (ap (λ (x : Listed). recordBytes (x .records)) (listed-sheet 3 l)) i
 
     -- and filled in it is the newer one
     sheet-filled : filledIn (sheet 1 l) (sheet 3 l) ≡ sheet 3 l
@@ -122,6 +129,7 @@ demand-3 l lent1 lent3 s d t n both = go (firstNew 1 (parsed 3 l .segments)) (wa
         record {
           same-answer = a1;
           same-but = left1 ∙ sheet-withheld l v same short ∙ ap withheldSheet (sym left3);
+          every-byte = λ i. rw (left1, left3) (sheet-bytes l v same short i);
           written-back = λ buffer h.
               ap (λ (x : List ℕ). write x buffer) (ap₂ filledIn left1 left3 ∙ sheet-filled l v same short ∙ sym left3)
               ∙ demand-2 .sheets-are-written l lent3 buffer s d t n (both .are-bytes) a3 h;

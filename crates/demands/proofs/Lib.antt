@@ -10,5 +10,7 @@ pub mod OlderRows
 pub mod OlderWalk
 pub mod Withheld
 pub mod Alike
+pub mod Places
 pub mod OlderRecords
 pub mod Editions
+pub mod Filled

@@ -5,11 +5,11 @@ use Prim.Native.Nat.{ℕ, _+_, _≤_}
 use native.Mathlib.Nat.{le-refl}
 use native.Mathlib.Omega.{arith}
 use mathlib.Core.Path.{_≡_, refl, sym, ap, ap₂, subst, _∙_}
-use mathlib.Core.Bool.{Bool, true, false, _&&_, true≢false}
-use mathlib.Core.List.{List, [], _∷_, _++_, append-nil}
-use borrow.Author.Tests.{le-ltb, eq-eqb, eqb-true, not-false}
-use lib.Dec.{ltb, eqb}
-use lib.ListN.{length, take, drop, length-drop, take-append-drop, drop-of-length-le}
+use mathlib.Core.Bool.{true, false, _&&_, true≢false}
+use mathlib.Core.List.{List, _∷_, _++_, append-nil}
+use borrow.Author.Tests.{le-ltb, not-false}
+use lib.Dec.{ltb}
+use lib.ListN.{length, take, drop, length-append, length-drop, take-append-drop, drop-of-length-le}
 use lib.Seq.{take-at, getD-drop}
 use Rattle.octets.specs.Octets.{Bytes}
 use Rattle.octets.specs.Layout.{over}
@@ -23,9 +23,10 @@ use Rattle.format.specs.Sheet.{bodyLength, recordOf, headerRecord, packetRecord
 use Rattle.format.specs.Answer.{Outcome, outcome, leftBy}
 use Rattle.format.specs.Rows.{firstRow}
 use Rattle.format.specs.Reader.{parsed, readingOf, dwellsIn, targetsIn, sheet, readingAnswer, read}
-use Rattle.format.specs.Writer.{isHeaded, calledFor, isComplete, Regrouped, segmentsBytes, spellRecords, spell, isAccepted, isSame, readsBack, sheetRows, writerRows, writingAnswer, write}
+use Rattle.format.specs.Writer.{isHeaded, calledFor, isComplete, Regrouped, segmentsBytes, spellRecords, spell, isAccepted, isSame, readsBack, sheetRows, writerRows, writerAnswer, writingAnswer, write}
 use Rattle.format.proofs.Rows.{first-passes, neither}
 use Rattle.format.proofs.Records.{listed-sheet}
+use Rattle.format.proofs.Sameness.{same-itself, same-lists}
 use Rattle.demands.specs.Demands.{Counted, Demand2}
 use Rattle.format.proofs.Segments.{AllSound, parse-back, parse-sound}
 use Rattle.demands.proofs.Regroup.{packet-regrouped}
@@ -35,24 +36,6 @@ use Rattle.demands.proofs.AreBytes.{spell-bytes}
 use Rattle.format.proofs.Acceptance.{no-refusal, same-counts, same-length, Acceptable, accepted-when, accepted-only, header-sized, read-when, read-only}
 
 -- ---- equal lists, by the test
-
--- a list is the same as itself
-same-itself : (l : List ℕ) → isSame l l ≡ true
-unfolding isSame
-same-itself [] = refl
-same-itself (x ∷ xs) = rw (eq-eqb x x refl) (same-itself xs)
-
--- and as no other one
-same-lists : (l m : List ℕ) → isSame l m ≡ true → l ≡ m
-unfolding isSame
-same-lists [] [] e = refl
-same-lists [] (y ∷ ys) e = absurd (true≢false (sym e))
-same-lists (x ∷ xs) [] e = absurd (true≢false (sym e))
-same-lists (x ∷ xs) (y ∷ ys) e = go (eqb x y) refl e (same-lists xs ys)
-  where
-    go : (t : Bool) → eqb x y ≡ t → (t && isSame xs ys) ≡ true → (isSame xs ys ≡ true → xs ≡ ys) → x ∷ xs ≡ y ∷ ys
-    go true p q i = ap₂ (λ (a : ℕ) (l : List ℕ). a ∷ l) (eqb-true x y p) (i q)
-    go false p q i = absurd (true≢false (sym q))
 
 -- ---- from a packet to its sheet and back
 
@@ -107,7 +90,7 @@ countsOf l n = Accepted (length (parsed 3 l .segments)) (dwellsIn (parsed 3 l .s
 module _ (x buffer : List ℕ) where
   -- the answer by the first row that applies
   abbrev written : Check → Answer
-  written c = elim c [ Passed ↦ countsOf (spell x) (length (spell x)) | Failed number field ↦ Refused number 0 0 ]
+  written c = writerAnswer x c
 
   -- where none applies, the spelt packet is laid into the buffer
   written-when : firstRow (writerRows x (length buffer)) ≡ Passed → write x buffer ≡ outcome (countsOf (spell x) (length (spell x))) (over (spell x) buffer)
@@ -141,7 +124,7 @@ back-means l x e = go (readingAnswer 3 l (length x)) refl e
     go (Accepted s d t n) h e = (accepted-only 3 l (length x) s d t n h .0, same-lists (sheet 3 l) x e)
     go (Refused number segment field) h e = absurd (true≢false (sym e))
 
--- ---- the three parts of the demand
+-- ---- the four parts of the demand
 
 -- the counts are the sheet's
 counted : (edition : ℕ) (l lent : List ℕ) (s d t n : ℕ) → read edition l lent .answer ≡ Accepted s d t n → Counted (sheet edition l) s d t n
@@ -185,5 +168,29 @@ only-written x buffer s d t n b e =
           (ap (λ (y : List ℕ). x ++ y) (drop-of-length-le lent {i = length x} (omega arith)) ∙ append-nil x),
     )
 
+-- bytes laid over a buffer are its front
+pub over-front : (l buffer : List ℕ) → take (length l) (over l buffer) ≡ l
+unfolding over
+over-front l buffer = take-at l (drop (length l) buffer) (length l) refl
+
+-- packets with the same sheet are written into a buffer that has room for either, so they are the same packet
+one-packet : (l m lentl lentm : List ℕ) (s d t n s′ d′ t′ n′ : ℕ) → Bytes l → Bytes m
+    → read 3 l lentl .answer ≡ Accepted s d t n → read 3 m lentm .answer ≡ Accepted s′ d′ t′ n′
+    → take n (read 3 l lentl .left) ≡ take n′ (read 3 m lentm .left)
+    → l ≡ m
+one-packet l m lentl lentm s d t n s′ d′ t′ n′ bl bm el em same =
+    sym (over-front l buffer)
+    ∙ ap₂ take (same-length _ _ _ _ s′ d′ t′ (length m) (ap (λ (o : Outcome). o .answer) both)) (ap (λ (o : Outcome). o .left) both)
+    ∙ over-front m buffer
+  where
+    buffer : List ℕ
+    buffer = l ++ m
+
+    both : outcome (Accepted s d t (length l)) (over l buffer) ≡ outcome (Accepted s′ d′ t′ (length m)) (over m buffer)
+    both =
+        sym (sheet-written l lentl buffer s d t n bl el (rw length-append (omega arith)))
+        ∙ ap (λ (x : List ℕ). write x buffer) same
+        ∙ sheet-written m lentm buffer s′ d′ t′ n′ bm em (rw length-append (omega arith))
+
 pub demand-2 : Demand2
-demand-2 = record { counts = counted; sheets-are-written = sheet-written; only-sheets-are-written = only-written }
+demand-2 = record { counts = counted; sheets-are-written = sheet-written; only-sheets-are-written = only-written; one-packet-each = one-packet }

@@ -4,8 +4,9 @@
 -- Assumes nothing.
 use Prim.Native.Nat.{ℕ, _≤_}
 use mathlib.Core.Path.{_≡_}
+use mathlib.Core.Bool.{cond}
 use mathlib.Core.List.{List}
-use lib.ListN.{length, take}
+use lib.ListN.{length, getD, take}
 use Rattle.octets.specs.Octets.{Bytes}
 use Rattle.octets.specs.Layout.{over}
 use Rattle.format.specs.declared.Check.the-variants.{Passed, Failed}
@@ -18,6 +19,7 @@ use Rattle.format.specs.Reader.{parsed, sheet, read}
 use Rattle.format.specs.Writer.{listed, writerRows, spell, write}
 use Rattle.demands.specs.First.{FirstRow, NoRow}
 use Rattle.demands.specs.Filled.{withheldSheet, filledIn}
+use Rattle.demands.specs.Places.{isWithheldAt}
 use Rattle.demands.specs.Counts.{count, isKind, isLeader}
 
 -- an accepted call, and what it leaves
@@ -57,7 +59,8 @@ pub record Counted (x : List ℕ) (segments dwells targets n : ℕ) : Type 0 whe
   pub targets-are : targets ≡ count (isKind 4) (listed x .records)
   pub length-is : n ≡ length x
 
--- demand 2 itself: the counts, and "exactly" in both directions
+-- demand 2 itself: the counts, "exactly" in both directions, and that the writer can return "that packet": hence no two packets have the
+-- same sheet
 pub record Demand2 : Type 0 where
   pub counts : (edition : ℕ) (l lent : List ℕ) (s d t n : ℕ) → read edition l lent .answer ≡ Accepted s d t n
       → Counted (sheet edition l) s d t n
@@ -67,6 +70,10 @@ pub record Demand2 : Type 0 where
   pub only-sheets-are-written : (x buffer : List ℕ) (s d t n : ℕ) → Bytes x → write x buffer .answer ≡ Accepted s d t n
       → (l : List ℕ) × Bytes l × (length l ≡ n) × (write x buffer .left ≡ over l buffer)
       × ((lent : List ℕ) → length lent ≡ length x → read 3 l lent ≡ accepted s d t (length x) x)
+  pub one-packet-each : (l m lentl lentm : List ℕ) (s d t n s′ d′ t′ n′ : ℕ) → Bytes l → Bytes m
+      → read 3 l lentl .answer ≡ Accepted s d t n → read 3 m lentm .answer ≡ Accepted s′ d′ t′ n′
+      → take n (read 3 l lentl .left) ≡ take n′ (read 3 m lentm .left)
+      → l ≡ m
 
 -- ---- Demand 3
 
@@ -85,6 +92,9 @@ pub record BothRead (l lent1 lent3 : List ℕ) (s d t n : ℕ) : Type 0 where
 pub record ReadAlike (l lent1 lent3 : List ℕ) (s d t n : ℕ) : Type 0 where
   pub same-answer : read 1 l lent1 .answer ≡ Accepted s d t n
   pub same-but : take n (read 1 l lent1 .left) ≡ withheldSheet (take n (read 3 l lent3 .left))
+  pub every-byte : (i : ℕ)
+      → getD (take n (read 1 l lent1 .left)) i 0
+      ≡ cond (isWithheldAt (listed (take n (read 3 l lent3 .left)) .records) i) 0 (getD (take n (read 3 l lent3 .left)) i 0)
   pub written-back : (buffer : List ℕ) → length l ≤ length buffer
       → write (filledIn (take n (read 1 l lent1 .left)) (take n (read 3 l lent3 .left))) buffer ≡ accepted s d t (length l) (over l buffer)
 

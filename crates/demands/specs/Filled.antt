@@ -38,9 +38,10 @@ withheldRecords (r ∷ rs) = withheldRecord r ∷ withheldRecords rs
 unfoldable pub withheldSheet : List ℕ → List ℕ
 withheldSheet x = recordBytes (withheldRecords (listed x .records))
 
--- "Copy into it every D27 and J26 of the Edition 3 sheet and mark them as shown": into r, of q
+-- "Copy into it every D27 and J26 of the Edition 3 sheet and mark them as shown": into r, of a record q of the same kind; another one
+-- gives nothing
 unfoldable pub filledRecord : Record → Record → Record
-filledRecord r q = changed (λ ws n mark b. replaced 1 ws mark (1 ∷ []) (copied 1 ws n (q .body) b)) r
+filledRecord r q = cond (eqb (r .kind) (q .kind)) (changed (λ ws n mark b. replaced 1 ws mark (1 ∷ []) (copied 1 ws n (q .body) b)) r) r
 
 -- so each record of the one list, of that at the same place in the other
 unfoldable pub filledRecords : List Record → List Record → List Record

@@ -1,5 +1,6 @@
 pub mod First
 pub mod Filled
+pub mod Places
 pub mod Counts
 pub mod Demands
 pub mod Trials

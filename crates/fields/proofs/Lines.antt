@@ -83,7 +83,7 @@ none-of mask word n (w ∷ ws) e h = go (announced word n) (announced mask n) re
     go false b f g h rest = absurd (true≢false (sym h))
 
 -- where all are announced, they take all their widths, and at full widths they are the bytes themselves
-all-length : (mask n : ℕ) (ws : List ℕ) → allSet mask n ws ≡ true → announcedLength mask n ws ≡ total ws
+pub all-length : (mask n : ℕ) (ws : List ℕ) → allSet mask n ws ≡ true → announcedLength mask n ws ≡ total ws
 unfolding announcedLength total
 all-length mask n [] h = refl
 all-length mask n (w ∷ ws) h = go (announced mask n) h (λ k. all-length mask (suc n) ws k)
@@ -102,7 +102,7 @@ all-full mask n (w ∷ ws) b h k = go (announced mask n) h (λ i. all-full mask 
     go true h rest = ap₂ (λ (x y : List ℕ). x ++ y) (pad-take w b (omega arith)) (rest h) ∙ sym (take-add w (total ws) b)
     go false h rest = absurd (true≢false (sym h))
 
-none-length : (mask n : ℕ) (ws : List ℕ) → noneSet mask n ws ≡ true → announcedLength mask n ws ≡ 0
+pub none-length : (mask n : ℕ) (ws : List ℕ) → noneSet mask n ws ≡ true → announcedLength mask n ws ≡ 0
 unfolding announcedLength
 none-length mask n [] h = refl
 none-length mask n (w ∷ ws) h = go (announced mask n) h (λ k. none-length mask (suc n) ws k)

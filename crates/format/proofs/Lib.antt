@@ -1,10 +1,13 @@
 pub mod Types
 pub mod Rows
 pub mod Records
+pub mod Listing
 pub mod Lengths
 pub mod Segments
 pub mod Turns
 pub mod Bodies
 pub mod Dwells
 pub mod Acceptance
+pub mod Longest
+pub mod Sameness
 pub mod Trials

@@ -7,6 +7,7 @@ use lib.Dec.{ltb, leb, eqb}
 use lib.ListN.{length, getD, take, drop}
 use Rattle.octets.specs.Octets.{be}
 use Rattle.mask.specs.Fields.{announcedFields, dwellWidths, targetWidths, d32}
+use Rattle.format.specs.declared.Check.{Check}
 use Rattle.format.specs.declared.Check.the-variants.{Passed, Failed}
 use Rattle.format.specs.declared.Answer.{Answer}
 use Rattle.format.specs.declared.Answer.the-variants.{Accepted, Refused}
@@ -167,14 +168,21 @@ sheetRows x =
 unfoldable pub writerRows : List ℕ → ℕ → List Row
 writerRows x lent = sheetRows x ++ row 20 0 (ltb lent (length (spell x))) ∷ []
 
--- "Writer refusals have segment and field 0"; accepted, the counts are those of the packet, "(the writer: packet length)"
-unfoldable pub writingAnswer : List ℕ → ℕ → Answer
-writingAnswer x lent =
+-- the answer by the first row that applies: "Writer refusals have segment and field 0"; accepted, the counts are those of the packet,
+-- "(the writer: packet length)"
+abbrev pub writerAnswer : List ℕ → Check → Answer
+writerAnswer x Passed =
     let segments = parsed 3 (spell x) .segments in
-    elim (firstRow (writerRows x lent)) [
-      | Passed ↦ Accepted (length segments) (dwellsIn segments) (targetsIn segments) (length (spell x))
-      | Failed number field ↦ Refused number 0 0
-    ]
+    Accepted (length segments) (dwellsIn segments) (targetsIn segments) (length (spell x))
+writerAnswer x (Failed number field) = Refused number 0 0
+
+-- of a sheet by itself, with no packet buffer: rows 17 to 19
+unfoldable pub sheetAnswer : List ℕ → Answer
+sheetAnswer x = writerAnswer x (firstRow (sheetRows x))
+
+-- with so many bytes of packet buffer lent: rows 17 to 20
+unfoldable pub writingAnswer : List ℕ → ℕ → Answer
+writingAnswer x lent = writerAnswer x (firstRow (writerRows x lent))
 
 -- the answer, and what the lent packet buffer then holds
 unfoldable pub write : List ℕ → List ℕ → Outcome

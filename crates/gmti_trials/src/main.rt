@@ -1,22 +1,21 @@
 // Reads test vectors from standard input, one a line, as `NAME: E LENT HEX`: the edition of the reading, how many bytes of sheet are
-// lent, and the packet in hex. It answers each by `NAME: `, the answer, and the lent sheet in hex.
-ghost use Prim.Native.Nat.{_+_, _*_, _/_, _≤_};
+// lent, and the packet in hex; or with `w` in the place of the edition how many bytes of packet are lent to the writer, and the sheet. It
+// answers each by `NAME: `, the answer, and the lent bytes in hex.
+ghost use mathlib.Core.Path.{_≡_};
+ghost use mathlib.Core.Bool.{cond};
+ghost use Prim.Native.Nat.{_+_, _/_, _≤_};
 ghost use lib.ListN.{length};
+ghost use Rattle.format.specs.Answer.{outcome};
+ghost use Rattle.format.specs.Reader.{read};
+ghost use Rattle.format.specs.Writer.{write};
 
-// A vector's numbers, where its name ends and where its packet begins.
+// Whether a vector is the writer's, its numbers, where its name ends and where its packet or sheet begins.
 struct Vector {
     name: usize,
+    writes: bool,
     edition: u32,
     lent: usize,
     hex: usize,
-}
-
-// The place k bytes further, or the end.
-fn further(s: &[u8], at: usize, k: usize) -> usize
-    requires { ⌜ at ≤ length (now s) ⌝ }
-    ensures { λ r. ⌜ r ≤ length (now (s .entry)) ⌝ }
-{
-    if s.len() - at < k { s.len() } else { at + k }
 }
 
 fn least(a: usize, b: usize) -> usize
@@ -25,29 +24,49 @@ fn least(a: usize, b: usize) -> usize
     if a < b { a } else { b }
 }
 
+fn begins_with(s: &[u8], letter: u8) -> bool {
+    if s.len() == 0 {
+        return false;
+    }
+    s[0] == letter
+}
+
 fn parse(line: &[u8]) -> Vector
     ensures { λ r. ⌜ (r .name ≤ length (now (line .entry))) × (r .hex ≤ length (now (line .entry))) × (r .lent ≤ 8192) ⌝ }
 {
     let name = vectors::find(line, 0, b':');
-    let e = further(line, name, 2);
+    let e = vectors::further(line, name, 2);
     let e_end = vectors::find(line, e, b' ');
     let edition = vectors::number(&line[e..e_end]);
-    let n = further(line, e_end, 1);
+    let n = vectors::further(line, e_end, 1);
     let n_end = vectors::find(line, n, b' ');
     let lent = least(vectors::number(&line[n..n_end]) as usize, 8192);
-    let hex = further(line, n_end, 1);
+    let hex = vectors::further(line, n_end, 1);
+    let writes = begins_with(&line[e..e_end], b'w');
     Vector {
         name: name,
+        writes: writes,
         edition: edition,
         lent: lent,
         hex: hex,
     }
 }
 
-// The bytes that a lent sheet holds before the reading, so that one that is left unchanged is seen.
+// The bytes that lent memory holds before the call, so that it is seen where it is left unchanged.
 fn fill(o: &mut [u8]) {
     for i in 0..o.len() {
         o[i] = 0xAA;
+    }
+}
+
+// The writer's answer to a sheet, or that of the edition's reading to a packet.
+fn called(writes: bool, edition: u32, given: &[u8], lent: &mut [u8]) -> format::Answer
+    ensures { λ a. ⌜ outcome a (now (lent .exit)) ≡ cond writes (write (now (given .entry)) (now (lent .entry))) (read edition (now (given .entry)) (now (lent .entry))) ⌝ }
+{
+    if writes {
+        writer::write(given, lent)
+    } else {
+        reader::read(edition, given, lent)
     }
 }
 
@@ -62,7 +81,7 @@ fn answer(line: &[u8], packet: &mut [u8], sheet: &mut [u8], out: &mut [u8])
     let lent = v.lent;
     let n = vectors::unhex(&line[hex..], packet);
     fill(sheet);
-    let a = reader::read(v.edition, &packet[..n], &mut sheet[..lent]);
+    let a = called(v.writes, v.edition, &packet[..n], &mut sheet[..lent]);
     let r = vectors::put_line(out, &line[..name], a, &sheet[..lent]);
     io::write_all(1, &out[..r]);
 }

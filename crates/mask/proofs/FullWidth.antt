@@ -8,8 +8,10 @@ use native.Mathlib.Nat.{add-zero, add-suc, suc-add, zero-add}
 use native.Mathlib.Omega.{arith}
 use lib.ListN.{length, take, drop, length-append, length-drop}
 use lib.Seq.{length-take-le, take-at, drop-at, take-add, drop-drop}
+use Rattle.octets.specs.Octets.{Bytes}
 use Rattle.octets.specs.Layout.{pad, total}
 use Rattle.octets.proofs.Layouts.{length-pad, pad-take}
+use Rattle.octets.proofs.ByteLists.{nil-bytes, append-bytes, drop-bytes, pad-bytes}
 use Rattle.mask.specs.Fields.{announced, taken, announcedLength, fullFields, announcedFields}
 
 pub length-full : (mask n : ℕ) (ws b : List ℕ) → length (fullFields mask n ws b) ≡ total ws
@@ -74,3 +76,25 @@ full-append mask n (u ∷ us) vs b =
     ∙ ap₂ (λ (m : ℕ) (t : List ℕ). fullFields mask (suc n) us (drop (taken mask n u) b) ++ fullFields mask m vs t)
     (suc-add n (length us) ∙ sym (add-suc n (length us))) (drop-drop (announcedLength mask (suc n) us) (taken mask n u) b))
     ∙ sym (append-assoc (pad u (cond (announced mask n) b [])) (fullFields mask (suc n) us (drop (taken mask n u) b)) _)
+
+-- and so do the announced ones, each table's of its own bytes at full widths
+pub fields-append : (mask n : ℕ) (us vs full : List ℕ) → announcedFields mask n (us ++ vs) full ≡ announcedFields mask n us full ++ announcedFields mask (n + length us) vs (drop (total us) full)
+unfolding announcedFields total
+fields-append mask n [] vs full = ap (λ (m : ℕ). announcedFields mask m vs full) (sym (add-zero n))
+fields-append mask n (u ∷ us) vs full =
+    ap (λ (t : List ℕ). take (taken mask n u) full ++ t)
+    (fields-append mask (suc n) us vs (drop u full)
+    ∙ ap₂ (λ (m : ℕ) (t : List ℕ). announcedFields mask (suc n) us (drop u full) ++ announcedFields mask m vs t)
+    (suc-add n (length us) ∙ sym (add-suc n (length us))) (drop-drop (total us) u full))
+    ∙ sym (append-assoc (take (taken mask n u) full) (announcedFields mask (suc n) us (drop u full)) _)
+
+-- fields of bytes are bytes at full widths
+pub full-bytes : (mask n : ℕ) (ws b : List ℕ) → Bytes b → Bytes (fullFields mask n ws b)
+unfolding fullFields
+full-bytes mask n [] b h = nil-bytes
+full-bytes mask n (w ∷ ws) b h =
+    append-bytes (pad w (cond (announced mask n) b [])) (fullFields mask (suc n) ws (drop (taken mask n w) b)) (go (announced mask n)) (full-bytes mask (suc n) ws (drop (taken mask n w) b) (drop-bytes (taken mask n w) b h))
+  where
+    go : (t : Bool) → Bytes (pad w (cond t b []))
+    go true = pad-bytes w b h
+    go false = pad-bytes w [] nil-bytes

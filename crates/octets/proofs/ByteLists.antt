@@ -7,6 +7,7 @@ use lib.Dec.{lit<}
 use lib.ListN.{take, drop}
 use lib.Seq.{getD-drop}
 use Rattle.octets.specs.Octets.{bytes, Bytes}
+use Rattle.octets.specs.Layout.{pad}
 
 -- none
 pub nil-bytes : Bytes []
@@ -37,3 +38,10 @@ pub number-bytes : (k n : ℕ) → Bytes (bytes k n)
 unfolding bytes
 number-bytes zero n = nil-bytes
 number-bytes (suc k) n = append-bytes (bytes k (n / 256)) (n % 256 ∷ []) (number-bytes k (n / 256)) (cons-bytes (n % 256) [] (omega arith) nil-bytes)
+
+-- those that are cut, or filled with zeros
+pub pad-bytes : (w : ℕ) (b : List ℕ) → Bytes b → Bytes (pad w b)
+unfolding pad
+pad-bytes zero b h = nil-bytes
+pad-bytes (suc w) [] h = cons-bytes 0 (pad w []) (lit< tt) (pad-bytes w [] nil-bytes)
+pad-bytes (suc w) (x ∷ b) h = cons-bytes x (pad w b) (h 0) (pad-bytes w b (λ i. h (suc i)))

@@ -3,7 +3,7 @@
 use mathlib.Core.Path.{_≡_, refl, sym, ap, ap₂, _∙_}
 use mathlib.Core.List.{List, [], _∷_, _++_, append-nil, append-assoc}
 use Prim.Native.Nat.{ℕ, zero, suc, _+_, _*_, _/_, _%_, _^_, _≤_, _<_}
-use native.Mathlib.Nat.{add-zero, add-suc, suc-add, pow-suc, pow-succ', one-le-pow, div-one, div-div-eq-div-mul}
+use native.Mathlib.Nat.{add-zero, zero-add, add-suc, suc-add, pow-suc, pow-succ', one-le-pow, div-one, div-div-eq-div-mul}
 use native.Mathlib.Numerals.{add-one}
 use native.Mathlib.Omega.{arith}
 use lib.Dec.{lit<}
@@ -18,6 +18,11 @@ unfolding be
 be-split j zero s = rw add-zero (omega arith)
 be-split j (suc k) s =
     rw (add-suc, pow-suc, getD-drop) (omega (arith, be-split j k s))
+
+-- a byte is a number of one byte
+pub one-byte : (i : ℕ) (s : List ℕ) → be 1 (drop i s) ≡ getD s i 0
+unfolding be
+one-byte i s = zero-add (getD (drop i s) 0 0) ∙ getD-drop i s 0 0 ∙ rw (add-zero i)
 
 -- k bytes spell a number below 256 ^ k
 pub be-lt : (k : ℕ) (s : List ℕ) → ((i : ℕ) → getD s i 0 < 256) → be k s < 256 ^ k

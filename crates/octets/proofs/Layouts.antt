@@ -3,10 +3,10 @@
 use mathlib.Core.Path.{_≡_, refl, sym, ap, _∙_}
 use mathlib.Core.List.{List, [], _∷_, _++_, append-nil}
 use Prim.Native.Nat.{ℕ, zero, suc, _+_, _-_, _≤_}
-use native.Mathlib.Nat.{le-refl, not-suc-le-zero}
+use native.Mathlib.Nat.{le-refl, not-suc-le-zero, zero-add}
 use native.Mathlib.Omega.{arith}
 use lib.ListN.{length, take, drop, length-append, length-drop}
-use lib.Seq.{take-length, length-take-le, take-at}
+use lib.Seq.{sets, sets-eq, take-length, length-take-le, take-at}
 use Rattle.octets.specs.Layout.{pad, over, width, offset, field, replaced, zeroed, copied}
 
 -- a padded field has its width
@@ -64,3 +64,8 @@ module _ (first : ℕ) (ws : List ℕ) (n : ℕ) where
 
   pub length-copied : (a b : List ℕ) → offset first ws n + width first ws n ≤ length a → offset first ws n + width first ws n ≤ length b → length (copied first ws n a b) ≡ length b
   length-copied a b ha hb = length-replaced (field first ws n a) b (length-field a ha) hb
+
+-- bytes stored from the first place on are laid over what was there
+pub sets-over : (p o : List ℕ) → length p ≤ length o → sets o 0 p ≡ over p o
+unfolding over
+sets-over p o h = sets-eq p o 0 (omega arith) ∙ ap (λ (n : ℕ). p ++ drop n o) (zero-add (length p))

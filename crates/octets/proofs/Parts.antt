@@ -1,12 +1,14 @@
 -- A part of a list, from a place to the end, that is lent to a function: what the function says of the part, said of the whole.
 -- Assumes nothing.
-use mathlib.Core.Path.{_≡_, sym, ap, _∙_}
+use mathlib.Core.Path.{_≡_, refl, sym, ap, _∙_}
 use mathlib.Core.List.{List, [], _∷_, _++_, append-nil}
-use Prim.Native.Nat.{ℕ, suc, _+_, _-_}
+use Prim.Native.Nat.{ℕ, suc, _+_, _-_, _≤_}
 use native.Mathlib.Nat.{le-of-eq, le-add-right, add-suc, add-zero}
+use native.Mathlib.Omega.{arith}
 use lib.ListN.{length, take, drop, set, length-drop, take-append-drop, drop-of-length-le}
-use lib.Seq.{sets, take-all, drop-set-add, take-set-le}
+use lib.Seq.{sets, take-all, drop-set-add, take-set-le, length-take-le, length-sets}
 use borrow.Rule.Slice.PartMut.{midOf, putMid}
+use Rattle.octets.proofs.Laws.{then}
 
 -- the part from a to the end is what is left after a places
 pub tail-is : (a : ℕ) (l : List ℕ) → midOf a (length l - a) l ≡ drop a l
@@ -36,3 +38,22 @@ part-stored l vs a at {r} e =
 -- the same where the part was stored from its first place on
 pub part-filled : (l vs : List ℕ) (a : ℕ) {r : List ℕ} → r ≡ sets (midOf a (length l - a) l) 0 vs → putMid a (length l - a) l r ≡ sets l a vs
 part-filled l vs a e = part-stored l vs a 0 e ∙ ap (λ (n : ℕ). sets l n vs) (add-zero a)
+
+-- where it stores at the front of the part, and what is left is stored behind that
+pub filled-next : (o rest e : List ℕ) (to n : ℕ) {p : List ℕ} → n ≡ length e → p ≡ sets (midOf to (length o - to) o) 0 e
+    → sets (putMid to (length o - to) o p) (to + n) rest ≡ sets o to (e ++ rest)
+filled-next o rest e to n h q = then e rest o to n (part-filled o e to q) (sym h) refl
+
+-- and the list keeps its length
+pub filled-length : (o e : List ℕ) (to : ℕ) {p : List ℕ} → p ≡ sets (midOf to (length o - to) o) 0 e → length (putMid to (length o - to) o p) ≡ length o
+filled-length o e to q = ap length (part-filled o e to q) ∙ length-sets o to e
+
+-- ---- the n bytes from i on, as code cuts a part out
+
+pub part-is : (x : List ℕ) (i n : ℕ) → take (i + n - i) (drop i x) ≡ take n (drop i x)
+part-is x i n =
+    let e : i + n - i ≡ n = omega arith in
+    ap (λ (m : ℕ). take m (drop i x)) e
+
+pub length-part : (x : List ℕ) (i n : ℕ) → i + n ≤ length x → length (take (i + n - i) (drop i x)) ≡ n
+length-part x i n h = ap length (part-is x i n) ∙ length-take-le n (drop i x) (rw (length-drop i x) (omega arith))

@@ -1,20 +1,20 @@
 -- The lines of records, one record after another as the code goes through a sheet.
 -- Assumes nothing.
 use mathlib.Core.Path.{_≡_, refl, sym, ap, ap₂, _∙_}
-use mathlib.Core.Bool.{and-false}
-use mathlib.Core.List.{List, [], _∷_, _++_}
-use Prim.Native.Nat.{ℕ, zero, suc, _+_, _-_, _≤_, _<_}
-use native.Mathlib.Numerals.{add-one}
+use mathlib.Core.Bool.{Bool}
+use mathlib.Core.List.{List, [], _++_}
+use Prim.Native.Nat.{ℕ, _+_, _≤_, _<_}
 use native.Mathlib.Nat.{zero-add}
 use native.Mathlib.Omega.{arith}
-use borrow.Author.Tests.{lt-ltb, le-leb, lt-leb, ne-eqb}
-use lib.ListN.{length, getD, take, drop, length-drop, length-append, drop-of-length-le}
-use lib.Seq.{sets, drop-cons, drop-drop, length-take-le}
+use borrow.Author.Tests.{ne-eqb}
+use lib.ListN.{length, getD, take, drop, length-append}
+use lib.Seq.{sets}
 use Rattle.octets.proofs.Laws.{sets-sets}
 use Rattle.format.specs.declared.Answer.{Answer}
 use Rattle.format.specs.declared.Answer.the-variants.{Accepted, Refused}
 use Rattle.format.specs.Sheet.{bodyLength}
-use Rattle.format.specs.Writer.{list, listed}
+use Rattle.format.specs.Writer.{Listed, listed}
+use Rattle.format.proofs.Listing.{listed-more}
 use Rattle.printing.specs.Printing.{answerLine, targetLine, recordLine, targetLines, printed}
 use Rattle.printing.proofs.Lines.{Laid, laid-join}
 
@@ -31,65 +31,25 @@ pub other-record : (kind : ℕ) (b : List ℕ) → (kind ≡ 4 → ⊥) → reco
 unfolding recordLine
 other-record kind b e = rw (ne-eqb kind 4 e)
 
--- the n bytes from i on, as the code cuts them out
-pub part-is : (x : List ℕ) (i n : ℕ) → take (i + n - i) (drop i x) ≡ take n (drop i x)
-part-is x i n =
-    let e : i + n - i ≡ n = omega arith in
-    ap (λ (m : ℕ). take m (drop i x)) e
-
-pub length-part : (x : List ℕ) (i n : ℕ) → i + n ≤ length x → length (take (i + n - i) (drop i x)) ≡ n
-length-part x i n h = ap length (part-is x i n) ∙ length-take-le n (drop i x) (rw (length-drop i x) (omega arith))
-
--- the records from a place on: one that is whole, and those behind it
-module _ (x : List ℕ) (at : ℕ) (h : at < length x) where
-  pub list-more : (k n : ℕ) → n ≡ bodyLength (getD x at 0) → 0 < n → at + 1 + n ≤ length x
-      → list (suc k) (drop at x) .records ≡ record { kind = getD x at 0; body = take n (drop (at + 1) x) } ∷ list k (drop (at + 1 + n) x) .records
-  unfolding list
-  list-more k n e p f =
-      let d : length (drop (suc at) x) ≡ length x - suc at = length-drop (suc at) x in
-      let g : n ≤ length (drop (suc at) x) = omega arith in
-      rw (add-one at, drop-cons x at 0 h, ← e, lt-ltb 0 n p, le-leb n (length (drop (suc at) x)) g, drop-drop n (suc at) x)
-
-  -- one of no kind, or cut, ends them
-  pub list-none : (k : ℕ) → bodyLength (getD x at 0) ≡ 0 → list k (drop at x) .records ≡ []
-  unfolding list
-  list-none zero e = refl
-  list-none (suc k) e = rw (drop-cons x at 0 h, e)
-
-  pub list-cut : (k : ℕ) → length x - at - 1 < bodyLength (getD x at 0) → list k (drop at x) .records ≡ []
-  unfolding list
-  list-cut zero e = refl
-  list-cut (suc k) e =
-      let d : length (drop (suc at) x) ≡ length x - suc at = length-drop (suc at) x in
-      let g : length (drop (suc at) x) < bodyLength (getD x at 0) = omega arith in
-      rw (drop-cons x at 0 h, lt-leb (bodyLength (getD x at 0)) (length (drop (suc at) x)) g, and-false)
-
-pub list-end : (x : List ℕ) (at k : ℕ) → length x ≤ at → list k (drop at x) .records ≡ []
-unfolding list
-list-end x at zero h = refl
-list-end x at (suc k) h = rw (drop-of-length-le x h)
-
--- the lines of the records from a place on, with fuel k
-abbrev pub rest : List ℕ → ℕ → ℕ → List ℕ
-rest x k at = targetLines (list k (drop at x) .records)
+-- the lines of the records from a place on
+abbrev pub rest : List ℕ → ℕ → List ℕ
+rest x at = targetLines (listed (drop at x) .records)
 
 -- at a place of x the lines so far stand in o up to p, and those of the rest, laid from p on, give the whole
 pub record Walked (x o₀ o : List ℕ) (start p at : ℕ) : Type 0 where
-  pub k : ℕ
-  pub fuel : length x ≤ at + k
   pub room : p ≤ start + at
   pub same : length o ≡ length o₀
-  pub next : p + length (rest x k at) ≡ start + length (targetLines (listed x .records))
-  pub left : sets o p (rest x k at) ≡ sets o₀ start (targetLines (listed x .records))
+  pub next : p + length (rest x at) ≡ start + length (targetLines (listed x .records))
+  pub left : sets o p (rest x at) ≡ sets o₀ start (targetLines (listed x .records))
 
 pub walk-start : (x o : List ℕ) (start : ℕ) → Walked x o o start start 0
-walk-start x o start = record { k = length x; fuel = omega arith; room = omega arith; same = refl; next = refl; left = refl }
+walk-start x o start = record { room = omega arith; same = refl; next = refl; left = refl }
 
 -- where no record is left, all is laid out
-pub walk-end : (x o₀ o : List ℕ) (start p at : ℕ) (w : Walked x o₀ o start p at) → list (w .k) (drop at x) .records ≡ [] → Laid o₀ start (targetLines (listed x .records)) p o
+pub walk-end : (x o₀ o : List ℕ) (start p at : ℕ) {whole : Bool} → Walked x o₀ o start p at → listed (drop at x) ≡ record { records = []; whole = whole } → Laid o₀ start (targetLines (listed x .records)) p o
 unfolding targetLines
 walk-end x o₀ o start p at w e =
-    let f : rest x (w .k) at ≡ [] = ap targetLines e in
+    let f : rest x at ≡ [] = ap (λ (l : Listed). targetLines (l .records)) e in
     (omega (arith, w .next, ap length f), sym (ap (sets o p) f) ∙ w .left)
 
 -- a turn
@@ -104,22 +64,16 @@ pub walk-turn : (x o₀ o b : List ℕ) (start p q at n : ℕ)
     → length b ≡ length o
     → Walked x o₀ b start q (at + 1 + n)
 unfolding targetLines
-walk-turn x o₀ o b start p q at n w h e pn f l r s = go (w .k) (w .fuel) (w .next) (w .left)
-  where
-    go : (k : ℕ) → length x ≤ at + k → p + length (rest x k at) ≡ start + length (targetLines (listed x .records)) → sets o p (rest x k at) ≡ sets o₀ start (targetLines (listed x .records)) → Walked x o₀ b start q (at + 1 + n)
-    go zero u v t = absurd (omega arith)
-    go (suc k) u v t =
-        let line = recordLine (record { kind = getD x at 0; body = take n (drop (at + 1) x) }) in
-        let more = rest x k (at + 1 + n) in
-        let both : rest x (suc k) at ≡ line ++ more = ap targetLines (list-more x at h k n e pn f) in
-        record {
-          k = k;
-          fuel = omega arith;
-          room = omega (arith, w .room);
-          same = s ∙ w .same;
-          next = omega (arith, v, ap length both, length-append line more, l .0);
-          left = ap₂ (λ (m : List ℕ) (i : ℕ). sets m i more) (l .1) (l .0) ∙ sets-sets line more o p ∙ sym (ap (sets o p) both) ∙ t;
-        }
+walk-turn x o₀ o b start p q at n w h e pn f l r s =
+    let line = recordLine (record { kind = getD x at 0; body = take n (drop (at + 1) x) }) in
+    let more = rest x (at + 1 + n) in
+    let both : rest x at ≡ line ++ more = ap (λ (k : Listed). targetLines (k .records)) (listed-more x at h n e pn f) in
+    record {
+      room = omega (arith, w .room);
+      same = s ∙ w .same;
+      next = omega (arith, w .next, ap length both, length-append line more, l .0);
+      left = ap₂ (λ (m : List ℕ) (i : ℕ). sets m i more) (l .1) (l .0) ∙ sets-sets line more o p ∙ sym (ap (sets o p) both) ∙ w .left;
+    }
 
 -- what is printed: the answer's line and, where it accepts, those of the targets behind it
 module _ (x : List ℕ) (a : Answer) where

@@ -81,7 +81,7 @@ pub fn put_answer(o: &mut [u8], at: usize, a: format::Answer) -> usize
     }
 }
 
-fn answer_line(o: &mut [u8], a: format::Answer) -> usize
+pub fn answer_line(o: &mut [u8], a: format::Answer) -> usize
     requires { ⌜ 96 ≤ length (now o) ⌝ }
     ensures { λ r. ⌜ (r ≡ length (answerLine a)) × (r ≤ 96) ⌝ }
     ensures { λ _. ⌜ now (o .exit) ≡ sets (now (o .entry)) 0 (answerLine a) ⌝ }
@@ -124,31 +124,6 @@ fn record_line(o: &mut [u8], at: usize, kind: u8, b: &[u8]) -> usize
     if kind == 4 { target_line(o, at, b) } else { at }
 }
 
-// The length of the body of each kind of record, from 0, which is no kind.
-const BODY_LENGTHS: [usize; 11] = [
-    0,
-    format::HeaderRecord::LEN,
-    format::MissionRecord::LEN,
-    format::DwellRecord::LEN,
-    format::TargetRecord::LEN,
-    format::TextRecord::LEN,
-    format::PieceRecord::LEN,
-    format::OpaqueRecord::LEN,
-    format::JobRecord::LEN,
-    format::TestRecord::LEN,
-    format::LocationRecord::LEN,
-];
-
-fn body_length(kind: u8) -> usize
-    ensures { λ r. ⌜ r ≡ bodyLength kind ⌝ }
-{
-    if kind < 11 {
-        BODY_LENGTHS[kind as usize]
-    } else {
-        0
-    }
-}
-
 // The records of x up to its end, or to one that is cut or of no kind.
 fn target_lines(o: &mut [u8], start: usize, x: &[u8]) -> usize
     requires { ⌜ start + length (now x) ≤ length (now o) ⌝ }
@@ -160,7 +135,7 @@ fn target_lines(o: &mut [u8], start: usize, x: &[u8]) -> usize
     let mut at = 0;
     while at < x.len() {
         let kind = x[at];
-        let n = body_length(kind);
+        let n = shape::body_length(kind);
         if n == 0 {
             return p;
         }
@@ -175,7 +150,8 @@ fn target_lines(o: &mut [u8], start: usize, x: &[u8]) -> usize
     p
 }
 
-fn front(s: &[u8], n: usize) -> &[u8]
+// The first n bytes of s, or all of them.
+pub fn front(s: &[u8], n: usize) -> &[u8]
     ensures { λ r. ⌜ now r ≡ take n (now (s .entry)) ⌝ }
 {
     if n <= s.len() { &s[..n] } else { s }

@@ -1,18 +1,18 @@
 -- The outcome of a reading, by where it ends: at the header, at a segment, at the sheet's room, or with the sheet laid out.
 -- Assumes nothing.
 use Prim.Native.Nat.{ℕ, _+_, _-_, _≤_, _<_}
-use native.Mathlib.Nat.{zero-add}
 use native.Mathlib.Omega.{arith}
 use mathlib.Core.Path.{_≡_, refl, sym, ap, _∙_}
 use mathlib.Core.Bool.{Bool, true, false, cond, _&&_, _||_, true≢false}
-use mathlib.Core.List.{List, [], _∷_, _++_}
+use mathlib.Core.List.{List, [], _∷_}
 use borrow.Author.Tests.{lt-leb, le-leb, not-false, eqb-true}
 use lib.Dec.{eqb, leb}
 use lib.ListN.{length, getD, drop}
-use lib.Seq.{sets, sets-eq}
+use lib.Seq.{sets}
 use borrow.Rule.Slice.PartMut.{midOf, putMid}
 use Rattle.octets.specs.Layout.{over}
 use Rattle.octets.proofs.Laws.{then}
+use Rattle.octets.proofs.Layouts.{sets-over}
 use Rattle.octets.proofs.Parts.{part-filled}
 use Rattle.mask.specs.Mask.{between}
 use Rattle.format.specs.declared.Check.{Check}
@@ -138,11 +138,11 @@ module _ (edition : ℕ) (l lent : List ℕ) where
 
     -- or it is laid over it
     pub read-laid : (s d t n : ℕ) (left : List ℕ) → Accepted s d t n ≡ walked → n ≤ length lent → left ≡ sets lent 0 (sheet edition l) → outcome (Accepted s d t n) left ≡ read edition l lent
-    unfolding leftBy over
+    unfolding leftBy
     read-laid s d t n left e h p =
         let w = walked-through s d t n e in
-        let fits : 0 + length (sheet edition l) ≤ length lent = omega (arith, w .length-is, h) in
-        let q : left ≡ over (sheet edition l) lent = p ∙ sets-eq (sheet edition l) lent 0 fits ∙ ap (λ (m : ℕ). sheet edition l ++ drop m lent) (zero-add (length (sheet edition l))) in
+        let fits : length (sheet edition l) ≤ length lent = omega (arith, w .length-is, h) in
+        let q : left ≡ over (sheet edition l) lent = p ∙ sets-over (sheet edition l) lent fits in
         let a : segmentsAnswer (parsed edition l) (length (sheet edition l)) (length lent) ≡ Accepted s d t n = w .answer-is (length lent) ∙ rw (le-leb n (length lent) h) in
         ap (outcome (Accepted s d t n)) q ∙ sym (past ∙ ap given a)
 

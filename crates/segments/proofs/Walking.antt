@@ -1,19 +1,20 @@
 -- The walk that checks: what one segment adds to the answer, and how large it can be.
 -- Assumes nothing.
-use Prim.Native.Nat.{ℕ, zero, suc, _+_, _-_, _*_, _/_, _≤_, _<_}
+use Prim.Native.Nat.{ℕ, suc, _+_, _-_, _*_, _/_, _≤_, _<_}
 use native.Mathlib.Omega.{arith}
 use mathlib.Core.Path.{_≡_, refl, sym, ap, ap₂, _∙_}
 use mathlib.Core.Bool.{Bool, true, false, cond}
-use mathlib.Core.List.{List, [], _∷_, _++_}
+use mathlib.Core.List.{List, _∷_, _++_}
 use borrow.Author.Tests.{ne-eqb}
-use lib.Dec.{eqb, lit<}
+use lib.Dec.{eqb}
 use lib.ListN.{length, drop, take, length-append, length-drop}
 use lib.Seq.{drop-drop}
 use Rattle.octets.specs.Octets.{Bytes}
-use Rattle.octets.specs.Layout.{pad, total, value}
+use Rattle.octets.specs.Layout.{total, value}
 use Rattle.octets.proofs.Laws.{be-lt}
-use Rattle.octets.proofs.ByteLists.{nil-bytes, cons-bytes, append-bytes, take-bytes, drop-bytes}
-use Rattle.mask.specs.Fields.{announced, taken, fullFields, dwellWidths}
+use Rattle.octets.proofs.ByteLists.{take-bytes, drop-bytes}
+use Rattle.mask.specs.Fields.{fullFields, dwellWidths}
+use Rattle.mask.proofs.FullWidth.{full-bytes}
 use Rattle.format.specs.declared.Reading.{Reading}
 use Rattle.format.specs.declared.Check.{Check}
 use Rattle.format.specs.declared.Check.the-variants.{Passed, Failed}
@@ -116,24 +117,6 @@ from-end r k l S D T N h =
     ∙ rw (a S, a D, a T, a N)
 
 -- ---- how large a segment's part is, so that no sum is too large
-
--- filling with zeros leaves bytes
-pad-bytes : (w : ℕ) (b : List ℕ) → Bytes b → Bytes (pad w b)
-unfolding pad
-pad-bytes zero b h = nil-bytes
-pad-bytes (suc w) [] h = cons-bytes 0 (pad w []) (lit< tt) (pad-bytes w [] nil-bytes)
-pad-bytes (suc w) (x ∷ b) h = cons-bytes x (pad w b) (h 0) (pad-bytes w b (λ i. h (suc i)))
-
--- so does laying fields out at full widths
-full-bytes : (mask n : ℕ) (ws b : List ℕ) → Bytes b → Bytes (fullFields mask n ws b)
-unfolding fullFields
-full-bytes mask n [] b h = nil-bytes
-full-bytes mask n (w ∷ ws) b h =
-    append-bytes (pad w (cond (announced mask n) b [])) (fullFields mask (suc n) ws (drop (taken mask n w) b)) (go (announced mask n)) (full-bytes mask (suc n) ws (drop (taken mask n w) b) (drop-bytes (taken mask n w) b h))
-  where
-    go : (t : Bool) → Bytes (pad w (cond t b []))
-    go true = pad-bytes w b h
-    go false = pad-bytes w [] nil-bytes
 
 -- D5 has two bytes
 count-lt : (b : List ℕ) → Bytes b → targetCount b < 65536

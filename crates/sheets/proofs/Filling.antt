@@ -2,13 +2,10 @@
 -- Assumes nothing.
 use Prim.Native.Nat.{ℕ, _+_, _-_, _≤_, _<_}
 use native.Mathlib.Omega.{arith}
-use mathlib.Core.Path.{_≡_, refl, sym, ap, ap₂, _∙_}
+use mathlib.Core.Path.{_≡_, sym, ap, ap₂, _∙_}
 use mathlib.Core.List.{List, [], _∷_, _++_}
 use lib.ListN.{length, getD, take, drop, length-drop}
-use lib.Seq.{sets, length-sets, drop-drop}
-use borrow.Rule.Slice.PartMut.{midOf, putMid}
-use Rattle.octets.proofs.Laws.{then}
-use Rattle.octets.proofs.Parts.{part-filled}
+use lib.Seq.{drop-drop}
 use Rattle.format.specs.declared.Reading.{Reading}
 use Rattle.format.specs.declared.Check.the-variants.{Passed}
 use Rattle.format.specs.Packet.{typeAt, sizeAt, bodyAt}
@@ -57,16 +54,6 @@ step r k s at h f e =
 pub none-left : (r : Reading) (k : ℕ) (l : List ℕ) → length l ≡ 0 → leftOver r k l ≡ []
 unfolding packetRecords recordBytes
 none-left r k l h = ap (λ (q : Parsed). recordBytes (packetRecords r (q .segments))) (parse-end r k l h)
-
--- a filler that was lent the sheet from a place on, and what is left laid out behind it
-pub filled-next : (o rest e : List ℕ) (to n : ℕ) {p : List ℕ} → n ≡ length e → p ≡ sets (midOf to (length o - to) o) 0 e
-    → sets (putMid to (length o - to) o p) (to + n) rest ≡ sets o to (e ++ rest)
-filled-next o rest e to n {p} h q =
-    then e rest o to n (part-filled o e to q) (sym h) refl
-
--- and the sheet keeps its length
-pub filled-length : (o e : List ℕ) (to : ℕ) {p : List ℕ} → p ≡ sets (midOf to (length o - to) o) 0 e → length (putMid to (length o - to) o p) ≡ length o
-filled-length o e to q = ap length (part-filled o e to q) ∙ length-sets o to e
 
 -- what is handed on of the segment at a place of s: t is the packet from there on, and the body is the part of it behind 5 bytes
 module _ (r : Reading) (s t : List ℕ) (at size : ℕ) where

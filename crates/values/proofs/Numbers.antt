@@ -1,25 +1,15 @@
--- Laws of the numbers that are read: a byte, where the required fields of a dwell stand, and a dwell's fields by its mask.
+-- Laws of the numbers that are read: where the required fields of a dwell stand, and a dwell's fields by its mask.
 -- Assumes nothing.
-use mathlib.Core.Path.{_≡_, refl, ap, _∙_}
+use mathlib.Core.Path.{_≡_, refl, ap}
 use mathlib.Core.Bool.{true}
 use mathlib.Core.List.{List, [], _∷_}
 use Prim.Native.Nat.{ℕ, _+_}
 use native.Mathlib.Omega.{arith}
-use lib.ListN.{getD, drop}
-use lib.Seq.{getD-drop}
-use Rattle.octets.specs.Octets.{be}
+use lib.ListN.{drop}
 use Rattle.mask.specs.Fields.{announced, taken, announcedLength, fullFields, dwellWidths}
 use Rattle.mask.specs.Mask.{isRequired}
 use Rattle.mask.proofs.Places.{announcedBefore}
 use Rattle.format.specs.Dwell.{maskOf, dwellFields}
-
--- a byte is a number of one byte
-pub one-byte : (s : List ℕ) (at : ℕ) → getD s at 0 ≡ be 1 (drop at s)
-unfolding be
-one-byte s at =
-    let e : at + 0 ≡ at = omega arith in
-    let g : getD (drop at s) 0 0 ≡ getD s at 0 = getD-drop at s 0 0 ∙ ap (λ (i : ℕ). getD s i 0) e in
-    omega arith
 
 -- where the required fields are announced, D2 to D9 take all their widths
 module _ (mask : ℕ) (h : (n : ℕ) → isRequired n ≡ true → announced mask n ≡ true) where

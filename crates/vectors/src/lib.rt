@@ -1,7 +1,7 @@
 // The parts of a program that reads test vectors as text. Nothing is asked of the text itself.
 ghost use mathlib.Core.Path.{_≡_};
 ghost use mathlib.Core.List.{[], _∷_, _++_};
-ghost use Prim.Native.Nat.{_+_, _*_, _/_, _≤_, _<_};
+ghost use Prim.Native.Nat.{_+_, _*_, _/_, _≤_, _<_, min};
 ghost use lib.ListN.{length, drop};
 ghost use lib.Seq.{sets};
 ghost use Rattle.vectors.specs.Vectors.{before, digitValue, withDigit, spelt, nibble, unhexed, hexDigit, hexed, vectorLine};
@@ -20,6 +20,14 @@ pub fn find(s: &[u8], at: usize, b: u8) -> usize
         i += 1;
     }
     i
+}
+
+// The place k bytes further, or the end of s.
+pub fn further(s: &[u8], at: usize, k: usize) -> usize
+    requires { ⌜ at ≤ length (now s) ⌝ }
+    ensures { λ r. ⌜ (r ≡ min (length (now (s .entry))) (at + k)) × (r ≤ length (now (s .entry))) ⌝ }
+{
+    if s.len() - at < k { s.len() } else { at + k }
 }
 
 fn digit_value(c: u8) -> u64
@@ -103,7 +111,7 @@ pub fn put_hex(o: &mut [u8], at: usize, s: &[u8]) -> usize
     p
 }
 
-fn put_name(o: &mut [u8], name: &[u8]) -> usize
+pub fn put_name(o: &mut [u8], name: &[u8]) -> usize
     requires { ⌜ length (now name) + 2 ≤ length (now o) ⌝ }
     ensures { λ r. ⌜ r ≡ length (now (name .entry)) + 2 ⌝ }
     ensures { λ _. ⌜ now (o .exit) ≡ sets (now (o .entry)) 0 (now (name .entry) ++ (58 ∷ 32 ∷ [])) ⌝ }

@@ -13,7 +13,7 @@ use Rattle.text.specs.Text.{textFault}
 use Rattle.format.specs.declared.Check.{Check}
 use Rattle.format.specs.Packet.{s2}
 use Rattle.format.specs.Rows.{firstRow, jobRows}
-use Rattle.checks.proofs.Numbers.{one-byte}
+use Rattle.octets.proofs.Laws.{one-byte}
 use Rattle.checks.proofs.job_check.Statement.{statement}
 use Rattle.checks.proofs.job_check.Tie as tie
 

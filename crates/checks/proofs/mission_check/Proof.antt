@@ -11,7 +11,7 @@ use Rattle.octets.specs.Layout.{total, value}
 use Rattle.format.specs.declared.Check.{Check}
 use Rattle.format.specs.Packet.{s2}
 use Rattle.format.specs.Rows.{firstRow, missionRows}
-use Rattle.checks.proofs.Numbers.{one-byte}
+use Rattle.octets.proofs.Laws.{one-byte}
 use Rattle.checks.proofs.mission_check.Statement.{statement}
 use Rattle.checks.proofs.mission_check.Tie as tie
 

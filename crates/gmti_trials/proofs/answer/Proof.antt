@@ -17,8 +17,8 @@ lent-fits : (c : tie.After-fill) → c .before .before .before .before .before .
 lent-fits c = omega (arith, c .fill .kept .0, c .before .before .before .before .before .before .before .parse .ensures .2, c .before .before .before .before .before .before .before .before .before .before .before .before .pre)
 
 -- and it comes back as long
-lent-is : (c : tie.After-read) → length (take (c .before .before .before .before .before .before .before .before .before .before .before .before .parse .result .lent) (c .read .last .1 .1 .0 ++ drop (c .before .before .before .before .before .before .before .before .before .before .before .before .parse .result .lent) (c .before .before .before .before .before .fill .last .0))) ≡ c .before .before .before .before .before .before .before .before .before .before .before .before .parse .result .lent
-lent-is c = length-back (c .read .last .1 .1 .0) (c .before .before .before .before .before .fill .last .0) (c .before .before .before .before .before .before .before .before .before .before .before .before .parse .result .lent) (lent-fits (c .before .before .before .before .before)) (c .read .kept .1 .1 .0)
+lent-is : (c : tie.After-called) → length (take (c .before .before .before .before .before .before .before .before .before .before .before .before .parse .result .lent) (c .called .last .1 .1 .1 .0 ++ drop (c .before .before .before .before .before .before .before .before .before .before .before .before .parse .result .lent) (c .before .before .before .before .before .fill .last .0))) ≡ c .before .before .before .before .before .before .before .before .before .before .before .before .parse .result .lent
+lent-is c = length-back (c .called .last .1 .1 .1 .0) (c .before .before .before .before .before .fill .last .0) (c .before .before .before .before .before .before .before .before .before .before .before .before .parse .result .lent) (lent-fits (c .before .before .before .before .before)) (c .called .kept .1 .1 .1 .0)
 
 parse-requires : tie.Need-parse-requires
 parse-requires c κs = search needs
@@ -38,20 +38,20 @@ unhex-requires c κs = search needs
 fill-requires : tie.Need-fill-requires
 fill-requires c κs = search needs
 
-slice-reshare-prefix-read : tie.Need-slice-reshare-prefix-read
-slice-reshare-prefix-read c = search needs
+slice-reshare-prefix-called : tie.Need-slice-reshare-prefix-called
+slice-reshare-prefix-called c = search needs
 
-slice-aggregate-read : tie.Need-slice-aggregate-read
-slice-aggregate-read c = sym (length-take-le _ (c .before .before .before .before .before .before .before .unhex .last .1 .0) (c .before .before .before .before .before .before .before .unhex .ensures .0 .1))
+slice-aggregate-called : tie.Need-slice-aggregate-called
+slice-aggregate-called c = sym (length-take-le _ (c .before .before .before .before .before .before .before .unhex .last .1 .0) (c .before .before .before .before .before .before .before .unhex .ensures .0 .1))
 
-slice-relend-prefix-read : tie.Need-slice-relend-prefix-read
-slice-relend-prefix-read c = search needs
+slice-relend-prefix-called : tie.Need-slice-relend-prefix-called
+slice-relend-prefix-called c = search needs
 
-slice-aggregate-read-2 : tie.Need-slice-aggregate-read-2
-slice-aggregate-read-2 c = sym (length-take-le _ (c .before .before .before .before .fill .last .0) (lent-fits (c .before .before .before .before)))
+slice-aggregate-called-2 : tie.Need-slice-aggregate-called-2
+slice-aggregate-called-2 c = sym (length-take-le _ (c .before .before .before .before .fill .last .0) (lent-fits (c .before .before .before .before)))
 
-read-requires : tie.Need-read-requires
-read-requires c κs = search needs
+called-requires : tie.Need-called-requires
+called-requires c κs = search needs
 
 slice-aggregate-put-line : tie.Need-slice-aggregate-put-line
 slice-aggregate-put-line c = sym (length-take-le (c .before .before .before .before .before .before .before .before .before .before .before .before .before .before .before .before .parse .result .name) (now (c .before .before .before .before .before .before .before .before .before .before .before .before .before .before .before .before .before .before .before .before .before .args .line)) (c .before .before .before .before .before .before .before .before .before .before .before .before .before .before .before .before .parse .ensures .0))
@@ -96,11 +96,11 @@ answer-spec =
     part-unhex-end
     unhex-requires
     fill-requires
-    slice-reshare-prefix-read
-    slice-aggregate-read
-    slice-relend-prefix-read
-    slice-aggregate-read-2
-    read-requires
+    slice-reshare-prefix-called
+    slice-aggregate-called
+    slice-relend-prefix-called
+    slice-aggregate-called-2
+    called-requires
     slice-aggregate-put-line
     slice-reshare-prefix-put-line
     slice-aggregate-put-line-2

@@ -1,6 +1,8 @@
 -- `printing::target_lines` meets its contract. The loop keeps that the lines of the records left, laid out from p on, give the whole.
 -- Assumes nothing.
-use Rattle.printing.proofs.Records.{part-is, length-part, Walked, walk-start, walk-end, walk-turn, list-none, list-cut, list-end}
+use Rattle.format.proofs.Listing.{listed-none, listed-cut, listed-end}
+use Rattle.octets.proofs.Parts.{part-is, length-part}
+use Rattle.printing.proofs.Records.{Walked, walk-start, walk-end, walk-turn}
 use mathlib.Core.Path.{sym, _∙_}
 use Prim.Native.Nat.{_≤_, _-_, _+_}
 use native.Mathlib.Omega.{arith}
@@ -33,7 +35,7 @@ returns c =
     let a = c .before .before .before .before .before .before .before .args in
     let l = c .before .before .before .before .loop in
     let w = walk-end (now (a .x)) (now (a .o)) (l .o) (a .start) (l .p) (l .at) (l .inv .1)
-    (list-none (now (a .x)) (l .at) (c .before .before .before .loop-test .taken) (l .inv .1 .k) (sym (c .before .body-length .ensures) ∙ c .if1 .taken)) in
+    (listed-none (now (a .x)) (l .at) (c .before .before .before .loop-test .taken) (sym (c .before .body-length .ensures .0) ∙ c .if1 .taken)) in
     (w .0, (w .1, omega (arith, l .inv .0, l .inv .1 .room)))
 
 sub-if2 : tie.Need-sub-if2 Inv-loop μ-loop
@@ -50,7 +52,7 @@ returns-2 c =
     let a = c .before .before .before .before .before .before .before .before .args in
     let l = c .before .before .before .before .before .loop in
     let w = walk-end (now (a .x)) (now (a .o)) (l .o) (a .start) (l .p) (l .at) (l .inv .1)
-    (list-cut (now (a .x)) (l .at) (c .before .before .before .before .loop-test .taken) (l .inv .1 .k) (omega (arith, c .before .before .body-length .ensures, c .if2 .taken))) in
+    (listed-cut (now (a .x)) (l .at) (c .before .before .before .before .loop-test .taken) (omega (arith, c .before .before .body-length .ensures .0, c .if2 .taken))) in
     (w .0, (w .1, omega (arith, l .inv .0, l .inv .1 .room)))
 
 add-from : tie.Need-add-from Inv-loop μ-loop
@@ -72,7 +74,7 @@ record-line-requires : tie.Need-record-line-requires Inv-loop μ-loop
 record-line-requires c κs =
     let l = c .before .before .before .before .before .before .before .loop in
     let e = length-part (now (c .before .before .before .before .before .before .before .before .before .before .args .x)) (l .at + 1) (c .before .before .before .before .body-length .result) (omega arith) in
-    (omega (arith, e, l .inv .1 .room, l .inv .1 .same, c .before .before .before .before .before .before .before .before .before .before .pre), e ∙ c .before .before .before .before .body-length .ensures)
+    (omega (arith, e, l .inv .1 .room, l .inv .1 .same, c .before .before .before .before .before .before .before .before .before .before .pre), e ∙ c .before .before .before .before .body-length .ensures .0)
 
 loop-less : tie.Need-loop-less Inv-loop μ-loop
 loop-less c = omega arith
@@ -87,7 +89,7 @@ loop-again c =
     let k = length-part (now (a .x)) (l .at + 1) n (omega arith) in (
       omega arith,
       walk-turn (now (a .x)) (now (a .o)) (l .o) (c .before .before .record-line .last .0) (a .start) (l .p) (c .before .before .record-line .result) (l .at) n
-          (l .inv .1) (c .before .before .before .before .before .before .before .before .before .loop-test .taken) (c .before .before .before .before .before .before .before .body-length .ensures) (omega arith) (omega arith)
+          (l .inv .1) (c .before .before .before .before .before .before .before .before .before .loop-test .taken) (c .before .before .before .before .before .before .before .body-length .ensures .0) (omega arith) (omega arith)
           (rw e at (f .0 .0), rw e at (f .1)) (omega (arith, f .0 .1, k)) (c .before .before .record-line .kept .0),
     )
 
@@ -98,7 +100,7 @@ returns-3 : tie.Need-returns-3 Inv-loop μ-loop
 returns-3 c =
     let a = c .before .before .before .before .args in
     let l = c .before .loop in
-    let w = walk-end (now (a .x)) (now (a .o)) (l .o) (a .start) (l .p) (l .at) (l .inv .1) (list-end (now (a .x)) (l .at) (l .inv .1 .k) (omega arith)) in
+    let w = walk-end (now (a .x)) (now (a .o)) (l .o) (a .start) (l .p) (l .at) (l .inv .1) (listed-end (now (a .x)) (l .at) (omega arith)) in
     (w .0, (w .1, omega (arith, l .inv .0, l .inv .1 .room)))
 
 pub target-lines-spec : {M : Type 1} → statement M

@@ -9,13 +9,13 @@ use denote.Ref.{now}
 use lib.ListN.{length, take, drop, length-drop, length-append}
 use lib.Seq.{sets}
 use borrow.Rule.Slice.PartMut.{midOf, putMid}
-use Rattle.octets.proofs.Parts.{tail-is}
+use Rattle.octets.proofs.Parts.{filled-next, filled-length, tail-is}
 use Rattle.format.specs.declared.Reading.{Reading}
 use Rattle.format.specs.declared.Check.the-variants.{Passed}
 use Rattle.format.specs.Packet.{sizeAt}
 use Rattle.format.specs.Reader.{parse}
 use Rattle.format.proofs.Rows.{segment-passes}
-use Rattle.sheets.proofs.Filling.{leftOver, firstBytes, Step, step, Handed, handed, none-left, filled-next, filled-length}
+use Rattle.sheets.proofs.Filling.{leftOver, firstBytes, Step, step, Handed, handed, none-left}
 use Rattle.sheets.proofs.packet_records.Statement.{statement}
 use Rattle.sheets.proofs.packet_records.Tie as tie
 

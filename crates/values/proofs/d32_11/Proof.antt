@@ -5,10 +5,10 @@ use mathlib.Core.Path.{sym, _∙_}
 use native.Mathlib.Omega.{arith}
 use lib.Dec.{lit≤, lit<}
 use denote.Ref.{now}
+use Rattle.octets.proofs.Laws.{one-byte}
 use Rattle.mask.specs.Fields.{targetWidths}
 use Rattle.mask.proofs.Places.{field-within, value-there, value-absent}
 use Rattle.format.specs.Dwell.{targetFields}
-use Rattle.values.proofs.Numbers.{one-byte}
 use Rattle.values.proofs.d32_11.Statement.{statement}
 use Rattle.values.proofs.d32_11.Tie as tie
 
@@ -27,7 +27,7 @@ returns : tie.Need-returns
 unfolding targetFields
 returns c =
     let s = c .before .before .before .before .before in
-    value-there (s .args .mask) 32 42 targetWidths (lit≤ tt) (lit< tt) (now (s .args .t)) 0 (c .before .before-d32-11 .result) (sym (c .before .before .before .has .ensures) ∙ c .before .before .if1 .taken) (omega arith) (one-byte (now (s .args .t)) (c .before .before-d32-11 .result))
+    value-there (s .args .mask) 32 42 targetWidths (lit≤ tt) (lit< tt) (now (s .args .t)) 0 (c .before .before-d32-11 .result) (sym (c .before .before .before .has .ensures) ∙ c .before .before .if1 .taken) (omega arith) (sym (one-byte (c .before .before-d32-11 .result) (now (s .args .t))))
 
 returns-2 : tie.Need-returns-2
 unfolding targetFields

@@ -1,0 +1,39 @@
+-- `announced::field4` meets its contract. An announced field is copied, and one that is not is left out.
+-- Assumes nothing.
+use mathlib.Core.Path.{sym, _∙_}
+use native.Mathlib.Omega.{arith}
+use denote.Ref.{now}
+use Rattle.announced.proofs.Lines.{field-needs, field-there, field-absent}
+use borrow.Author.Needs.{needs}
+use Rattle.announced.proofs.field4.Statement.{statement}
+use Rattle.announced.proofs.field4.Tie as tie
+
+has-requires : tie.Need-has-requires
+has-requires c κs = search needs
+
+copy4-requires : tie.Need-copy4-requires
+copy4-requires c κs =
+    let a = c .before .before .before .before .before .args in (
+      omega arith,
+      field-needs 4 (a .mask) (a .n) (now (a .s)) (now (a .o)) (a .p) (a .q) (sym (c .before .before .has .ensures) ∙ c .before .if1 .taken) (c .before .before .before .before .before .pre .3),
+    )
+
+add-result : tie.Need-add-result
+add-result c = search needs
+
+same-length : tie.Need-same-length
+same-length c = search needs
+
+returns : tie.Need-returns
+returns c =
+    let a = c .before .before .before .before .before .before .before .before .args in
+    field-there 4 (a .mask) (a .n) (now (a .s)) (now (a .o)) (a .p) (a .q) (sym (c .before .before .before .before .before .has .ensures) ∙ c .before .before .before .before .if1 .taken) (c .before .before .copy4 .ensures)
+
+returns-2 : tie.Need-returns-2
+returns-2 c =
+    let a = c .before .before .before .before .args in
+    field-absent 4 (a .mask) (a .n) (now (a .s)) (now (a .o)) (a .p) (a .q) (sym (c .before .has .ensures) ∙ c .if1 .left)
+
+pub field4-spec : {M : Type 1} → statement M
+field4-spec =
+    tie.close (tie.spec has-requires copy4-requires add-result same-length returns returns-2)

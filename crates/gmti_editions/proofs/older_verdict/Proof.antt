@@ -1,0 +1,123 @@
+-- `gmti_editions::older_verdict` meets its contract. The Edition 1 reading's answer by cases, and its counts by the tests.
+-- Assumes nothing.
+use mathlib.Core.Path.{_≡_, sym, ap, _∙_}
+use mathlib.Core.Bool.{Bool, true, false, cond, and-false}
+use mathlib.Core.Logic.{⊎-elim}
+use borrow.Author.Needs.{needs}
+use borrow.Author.Tests.{eq-eqb, ne-eqb, not-true, not-false}
+use denote.Ref.{now}
+use lib.Dec.{eqb}
+use lib.Seq.{length-take-le}
+use Rattle.gmti_editions.specs.declared.Verdict.{Verdict}
+use Rattle.gmti_editions.specs.declared.Verdict.the-variants.{Alike, Broken}
+use Rattle.gmti_editions.specs.Verdict.{olderVerdict}
+use Rattle.gmti_editions.proofs.Cases.{older-refused, older-other, older-same}
+use Rattle.gmti_editions.proofs.older_verdict.Statement.{statement}
+use Rattle.gmti_editions.proofs.older_verdict.Tie as tie
+
+-- the verdict that the contract names
+abbrev verdictAt : tie.Start → Verdict
+verdictAt c = olderVerdict (now (c .args .l)) (c .args .s) (c .args .d) (c .args .t) (c .args .n) (c .args .a) (now (c .args .older)) (now (c .args .newer)) (now (c .args .buffer))
+
+enum-known-a : tie.Need-enum-known-a
+enum-known-a c = search needs
+
+enum-known-a-2 : tie.Need-enum-known-a-2
+enum-known-a-2 c = search needs
+
+returns : tie.Need-returns
+returns c =
+    let x = c .before .before .before .before .before .before .before .before .args in
+    let a = c .before .before .a2 .given in
+    older-other (now (x .l)) (x .s) (x .d) (x .t) (x .n) (x .a) (now (x .older)) (now (x .newer)) (now (x .buffer)) (a .0 .0) (a .0 .1 .0) (a .0 .1 .1 .0) (a .0 .1 .1 .1 .0) (a .1)
+    (⊎-elim
+    (λ w. simp (ne-eqb (x .s) (a .0 .0) (w .taken)))
+    (⊎-elim
+    (λ w. simp (not-true (eqb (x .d) (a .0 .1 .0)) (w .1 .taken), and-false))
+    (⊎-elim
+    (λ w. simp (not-true (eqb (x .t) (a .0 .1 .1 .0)) (w .2 .taken), and-false))
+    (λ w. simp (not-true (eqb (x .n) (a .0 .1 .1 .1 .0)) (w .3 .taken), and-false))))
+    (c .if2 .came))
+
+slice-relend-prefix-is-alike : tie.Need-slice-relend-prefix-is-alike
+slice-relend-prefix-is-alike c = search needs
+
+slice-aggregate-is-alike : tie.Need-slice-aggregate-is-alike
+slice-aggregate-is-alike c =
+    let start = c .before .before .before .before .before .before .before .before .before .before .before .before in
+    sym (length-take-le (start .args .n) (now (start .args .older)) (start .pre .0))
+
+slice-aggregate-is-alike-2 : tie.Need-slice-aggregate-is-alike-2
+slice-aggregate-is-alike-2 c =
+    let start = c .before .before .before .before .before .before .before .before .before .before .before .before .before in
+    sym (length-take-le (start .args .n) (now (start .args .newer)) (start .pre .1))
+
+is-alike-requires : tie.Need-is-alike-requires
+is-alike-requires c κs = search needs
+
+returns-2 : tie.Need-returns-2
+returns-2 c =
+    let x = c .before .before .before .before .before .before .before .before .args in
+    let a = c .before .before .a .given in
+    older-refused (now (x .l)) (x .s) (x .d) (x .t) (x .n) (x .a) (now (x .older)) (now (x .newer)) (now (x .buffer)) (a .0 .0) (a .0 .1 .0) (a .0 .1 .1 .0) (a .1)
+    true (eq-eqb (a .0 .0) 15 (c .if1 .taken))
+
+returns-3 : tie.Need-returns-3
+returns-3 c =
+    let x = c .before .before .before .before .before .before .before .before .args in
+    let a = c .before .before .a .given in
+    older-refused (now (x .l)) (x .s) (x .d) (x .t) (x .n) (x .a) (now (x .older)) (now (x .newer)) (now (x .buffer)) (a .0 .0) (a .0 .1 .0) (a .0 .1 .1 .0) (a .1)
+    false (ne-eqb (a .0 .0) 15 (c .if1 .left))
+
+same-length : tie.Need-same-length
+same-length c = search needs
+
+same-length-2 : tie.Need-same-length-2
+same-length-2 c = search needs
+
+-- the verdict where the counts and the length are the same
+alike-is : (c : tie.After-is-alike) → cond (c .is-alike .result) Alike Broken ≡ verdictAt (c .before .before .before .before .before .before .before .before .before .before .before .before .before .before .before)
+alike-is c =
+    let tests = c .before .before .before .before in
+    let a = tests .before .before .before .before .before .a2 .given in
+    let x = tests .before .before .before .before .before .before .before .before .before .before .before .args in
+    older-same (now (x .l)) (x .s) (x .d) (x .t) (x .n) (x .a) (now (x .older)) (now (x .newer)) (now (x .buffer)) (a .0 .0) (a .0 .1 .0) (a .0 .1 .1 .0) (a .0 .1 .1 .1 .0) (a .1)
+    (simp (
+      eq-eqb (x .s) (a .0 .0) (tests .before .before .before .if2 .left),
+      not-false (eqb (x .d) (a .0 .1 .0)) (tests .before .before .if3 .left),
+      not-false (eqb (x .t) (a .0 .1 .1 .0)) (tests .before .if4 .left),
+      not-false (eqb (x .n) (a .0 .1 .1 .1 .0)) (tests .if5 .left),
+    ))
+    (c .is-alike .result) (c .is-alike .ensures)
+
+returns-4 : tie.Need-returns-4
+returns-4 c = ap (λ (b : Bool). cond b Alike Broken) (sym (c .if6 .taken)) ∙ alike-is (c .before .before .before .before .before)
+
+same-length-3 : tie.Need-same-length-3
+same-length-3 c = search needs
+
+same-length-4 : tie.Need-same-length-4
+same-length-4 c = search needs
+
+returns-5 : tie.Need-returns-5
+returns-5 c = ap (λ (b : Bool). cond b Alike Broken) (sym (c .if6 .left)) ∙ alike-is (c .before .before .before .before .before)
+
+pub older-verdict-spec : {M : Type 1} → statement M
+older-verdict-spec =
+    tie.close
+    (tie.spec
+    enum-known-a
+    enum-known-a-2
+    returns
+    slice-relend-prefix-is-alike
+    slice-aggregate-is-alike
+    slice-aggregate-is-alike-2
+    is-alike-requires
+    returns-2
+    returns-3
+    same-length
+    same-length-2
+    returns-4
+    same-length-3
+    same-length-4
+    returns-5)

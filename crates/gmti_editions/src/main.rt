@@ -1,0 +1,282 @@
+// Runs demand 3 on packets: reads a list of them from standard input, one a line, as `NAME: HEX`. It answers each by `NAME: ` and `alike`
+// or `new` with the answer of the Edition 1 reading, or by the refusal of the Edition 3 reading, or by `broken`.
+ghost use mathlib.Core.Path.{_≡_};
+ghost use Prim.Native.Nat.{_+_, _/_, _≤_};
+ghost use lib.ListN.{length};
+ghost use Rattle.format.specs.Packet.{version};
+ghost use Rattle.format.specs.Answer.{outcome};
+ghost use Rattle.format.specs.Reader.{read};
+ghost use Rattle.gmti_editions.specs.declared.Verdict.the-variants.{Broken};
+ghost use Rattle.gmti_editions.specs.Verdict.{isReturned, isAlike, olderVerdict, verdict as verdictOf};
+
+// What a run of demand 3 on a packet finds.
+enum Verdict {
+    // The Edition 3 reading refuses the packet: the demand says nothing of it.
+    NotRead,
+    // The Edition 1 reading refuses with 15.
+    New,
+    // Both readings accept, and the filled in sheet is written back to the packet.
+    Alike,
+    // None of these: the demand does not hold.
+    Broken,
+}
+
+// The verdict on a packet, and the answers of both readings.
+struct Judged {
+    verdict: Verdict,
+    newer: format::Answer,
+    older: format::Answer,
+}
+
+// Whether the writer's answer and buffer are the packet l with these counts.
+fn is_returned(l: &[u8], s: usize, d: usize, t: usize, a: format::Answer, buffer: &[u8]) -> bool
+    ensures { λ r. ⌜ r ≡ isReturned (now (l .entry)) s d t (outcome a (now (buffer .entry))) ⌝ }
+{
+    match a {
+        format::Answer::Refused {
+            number: _,
+            segment: _,
+            field: _,
+        } => false,
+        format::Answer::Accepted {
+            segments,
+            dwells,
+            targets,
+            length,
+        } => {
+            if s != segments || d != dwells || t != targets {
+                return false;
+            }
+            writer::same(printing::front(buffer, length), l)
+        }
+    }
+}
+
+// Whether the older sheet, filled in from the newer, is written back to the packet l with these counts.
+fn is_alike(
+    l: &[u8],
+    s: usize,
+    d: usize,
+    t: usize,
+    older: &mut [u8],
+    newer: &[u8],
+    buffer: &mut [u8],
+) -> bool
+    ensures { λ r. ⌜ r ≡ isAlike (now (l .entry)) s d t (now (older .entry)) (now (newer .entry)) (now (buffer .entry)) ⌝ }
+{
+    filling::fill_in(older, newer);
+    let a = writer::write(older, buffer);
+    is_returned(l, s, d, t, a, buffer)
+}
+
+// The verdict where the Edition 3 reading accepts with these counts and this length.
+fn older_verdict(
+    l: &[u8],
+    s: usize,
+    d: usize,
+    t: usize,
+    n: usize,
+    a: format::Answer,
+    older: &mut [u8],
+    newer: &[u8],
+    buffer: &mut [u8],
+) -> Verdict
+    requires { ⌜ (n ≤ length (now older)) × (n ≤ length (now newer)) ⌝ }
+    ensures { λ v. ⌜ v ≡ olderVerdict (now (l .entry)) s d t n a (now (older .entry)) (now (newer .entry)) (now (buffer .entry)) ⌝ }
+{
+    match a {
+        format::Answer::Refused {
+            number,
+            segment: _,
+            field: _,
+        } => {
+            if number == 15 {
+                Verdict::New
+            } else {
+                Verdict::Broken
+            }
+        }
+        format::Answer::Accepted {
+            segments,
+            dwells,
+            targets,
+            length,
+        } => {
+            if s != segments || d != dwells || t != targets || n != length {
+                return Verdict::Broken;
+            }
+            if is_alike(l, s, d, t, &mut older[..n], &newer[..n], buffer) {
+                Verdict::Alike
+            } else {
+                Verdict::Broken
+            }
+        }
+    }
+}
+
+// Both readings of the packet l, and the writer. It is proved that no version 3 packet is Broken.
+fn judge(l: &[u8], older: &mut [u8], newer: &mut [u8], buffer: &mut [u8]) -> Judged
+    requires { ⌜ length (now older) ≡ length (now newer) ⌝ }
+    ensures { λ j. ⌜ j .verdict ≡ verdictOf (now (l .entry)) (now (older .entry)) (now (newer .entry)) (now (buffer .entry)) ⌝ }
+    ensures { λ j. ⌜ (j .newer ≡ read 3 (now (l .entry)) (now (newer .entry)) .answer) × (j .older ≡ read 1 (now (l .entry)) (now (older .entry)) .answer) ⌝ }
+    ensures { λ j. ⌜ (version (now (l .entry)) ≡ 3 → length (now (l .entry)) ≤ length (now (buffer .entry)) → j .verdict ≡ Broken → ⊥) ⌝ }
+{
+    let a3 = reader::read(3, l, newer);
+    let a1 = reader::read(1, l, older);
+    let verdict = match a3 {
+        format::Answer::Refused {
+            number: _,
+            segment: _,
+            field: _,
+        } => Verdict::NotRead,
+        format::Answer::Accepted {
+            segments,
+            dwells,
+            targets,
+            length,
+        } => older_verdict(
+            l,
+            segments,
+            dwells,
+            targets,
+            length,
+            a1,
+            older,
+            newer,
+            buffer,
+        ),
+    };
+    Judged {
+        verdict: verdict,
+        newer: a3,
+        older: a1,
+    }
+}
+
+// The word of a verdict, and the answer behind it: that of the Edition 1 reading, or the Edition 3 reading's refusal.
+fn put_judged(o: &mut [u8], at: usize, j: Judged) -> usize
+    requires { ⌜ at + 92 ≤ length (now o) ⌝ }
+    ensures { λ r. ⌜ r ≤ at + 92 ⌝ }
+{
+    let verdict = j.verdict;
+    let newer = j.newer;
+    let older = j.older;
+    match verdict {
+        Verdict::NotRead => printing::put_answer(o, at, newer),
+        Verdict::New => {
+            copies::copy_all(b"new ", o, at);
+            printing::put_answer(o, at + 4, older)
+        }
+        Verdict::Alike => {
+            copies::copy_all(b"alike ", o, at);
+            printing::put_answer(o, at + 6, older)
+        }
+        Verdict::Broken => {
+            copies::copy_all(b"broken", o, at);
+            at + 6
+        }
+    }
+}
+
+// The line that answers the packet of this name.
+fn print_judged(name: &[u8], j: Judged, out: &mut [u8])
+    requires { ⌜ length (now name) + 95 ≤ length (now out) ⌝ }
+{
+    let p = vectors::put_name(out, name);
+    let q = put_judged(out, p, j);
+    out[q] = b'\n';
+    let end = q + 1;
+    io::write_all(1, &out[..end]);
+}
+
+fn answer(
+    line: &[u8],
+    packet: &mut [u8],
+    older: &mut [u8],
+    newer: &mut [u8],
+    buffer: &mut [u8],
+    out: &mut [u8],
+)
+    requires { ⌜ length (now line) / 2 ≤ length (now packet) ⌝ }
+    requires { ⌜ length (now older) ≡ length (now newer) ⌝ }
+    requires { ⌜ length (now line) + 95 ≤ length (now out) ⌝ }
+{
+    let name = vectors::find(line, 0, b':');
+    let hex = vectors::further(line, name, 2);
+    let n = vectors::unhex(&line[hex..], packet);
+    let j = judge(&packet[..n], older, newer, buffer);
+    print_judged(&line[..name], j, out);
+}
+
+fn answer_in(
+    line: &[u8],
+    packet: &mut [u8; 131072],
+    older: &mut [u8; 736953],
+    newer: &mut [u8; 736953],
+    buffer: &mut [u8; 65536],
+    out: &mut [u8; 262239],
+)
+    requires { ⌜ length (now line) ≤ 262144 ⌝ }
+{
+    answer(line, packet, older, newer, buffer, out);
+}
+
+fn answer_all(
+    s: &[u8],
+    packet: &mut [u8; 131072],
+    older: &mut [u8; 736953],
+    newer: &mut [u8; 736953],
+    buffer: &mut [u8; 65536],
+    out: &mut [u8; 262239],
+)
+    requires { ⌜ length (now s) ≤ 262144 ⌝ }
+{
+    let mut at = 0;
+    while at < s.len() {
+        let end = vectors::find(s, at, b'\n');
+        answer_in(&s[at..end], packet, older, newer, buffer, out);
+        at = end + 1;
+    }
+}
+
+fn run(
+    input: &mut [u8],
+    packet: &mut [u8; 131072],
+    older: &mut [u8; 736953],
+    newer: &mut [u8; 736953],
+    buffer: &mut [u8; 65536],
+    out: &mut [u8; 262239],
+)
+    requires { ⌜ length (now input) ≤ 262144 ⌝ }
+{
+    let n = io::read_full(0, input);
+    answer_all(&input[..n], packet, older, newer, buffer, out);
+}
+
+fn run_in(
+    input: &mut [u8; 262144],
+    packet: &mut [u8; 131072],
+    older: &mut [u8; 736953],
+    newer: &mut [u8; 736953],
+    buffer: &mut [u8; 65536],
+    out: &mut [u8; 262239],
+) {
+    run(input, packet, older, newer, buffer, out);
+}
+
+fn main() {
+    let mut input = [0u8; 262144];
+    let mut packet = [0u8; 131072];
+    let mut older = [0u8; 736953];
+    let mut newer = [0u8; 736953];
+    let mut buffer = [0u8; 65536];
+    let mut out = [0u8; 262239];
+    run_in(
+        &mut input,
+        &mut packet,
+        &mut older,
+        &mut newer,
+        &mut buffer,
+        &mut out,
+    );
+}

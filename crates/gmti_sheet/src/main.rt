@@ -1,0 +1,71 @@
+// Reads one packet from standard input as the edition that its one argument names, 1 or 3, and writes the sheet's bytes to standard
+// output, or the line of the refusal.
+ghost use mathlib.Core.Path.{_≡_};
+ghost use mathlib.Core.Bool.{cond};
+ghost use mathlib.Core.List.{[], _∷_};
+ghost use Prim.Native.Nat.{_≤_};
+ghost use lib.ListN.{length};
+ghost use Rattle.format.specs.Writer.{isSame};
+
+// The edition that a word names, and 0, which is none, for any other word.
+fn edition_of(word: &[u8]) -> u32
+    ensures { λ r. ⌜ r ≡ cond (isSame (now (word .entry)) (49 ∷ [])) 1 (cond (isSame (now (word .entry)) (51 ∷ [])) 3 0) ⌝ }
+{
+    if word.len() != 1 {
+        return 0;
+    }
+    let letter = word[0];
+    if letter == b'1' {
+        return 1;
+    }
+    if letter == b'3' { 3 } else { 0 }
+}
+
+// The edition of the program's one argument.
+fn edition_asked() -> u32 {
+    let mut word = [0u8; 2];
+    let n = os::arg(1, &mut word);
+    if os::arg_count() == 2 {
+        edition_of(&word[..n])
+    } else {
+        0
+    }
+}
+
+// A packet has at most 65,536 bytes: one byte more tells that the input is longer, and row 2 refuses it.
+fn run(packet: &mut [u8], sheet: &mut [u8], line: &mut [u8])
+    requires { ⌜ 96 ≤ length (now line) ⌝ }
+{
+    let n = io::read_full(0, packet);
+    let edition = edition_asked();
+    let a = reader::read(edition, &packet[..n], sheet);
+    match a {
+        format::Answer::Accepted {
+            segments: _,
+            dwells: _,
+            targets: _,
+            length,
+        } => {
+            io::write_all(1, printing::front(sheet, length));
+        }
+        format::Answer::Refused {
+            number: _,
+            segment: _,
+            field: _,
+        } => {
+            let k = printing::answer_line(line, a);
+            io::write_all(1, printing::front(line, k));
+        }
+    }
+}
+
+fn run_in(packet: &mut [u8; 65537], sheet: &mut [u8; 736953], line: &mut [u8; 96]) {
+    run(packet, sheet, line);
+}
+
+fn main() {
+    let mut packet = [0u8; 65537];
+    let mut sheet = [0u8; 736953];
+    let mut line = [0u8; 96];
+    run_in(&mut packet, &mut sheet, &mut line);
+}

@@ -1,0 +1,78 @@
+-- `writer::write_through` meets its contract. What is spelt stands at the front of the one array, and is read back into the front of the other.
+-- Assumes nothing.
+use native.Mathlib.Omega.{arith}
+use mathlib.Core.Path.{_≡_, sym, _∙_}
+use denote.Ref.{now}
+use lib.ListN.{length, take}
+use lib.Seq.{length-take-le}
+use Rattle.format.specs.Writer.{spell}
+use Rattle.writer.proofs.WriterRows.{row-19-back, front-back, settled-placed}
+use borrow.Author.Needs.{needs}
+use Rattle.writer.proofs.write_through.Statement.{statement}
+use Rattle.writer.proofs.write_through.Tie as tie
+
+-- the front of the one array is what x spells
+spelt-is : (c : tie.After-slice-known4) → let s = c .before .before .before .before .before .before .before .before in
+    take (s .args .n) (c .before .before .spell .last .1 .0) ≡ spell (now (s .args .x))
+spelt-is c =
+    let s = c .before .before .before .before .before .before .before .before in
+    front-back (spell (now (s .args .x))) (now (s .args .spelt)) _ (s .args .n) (s .pre .1) (omega (arith, s .pre .1, s .pre .3)) (c .before .before .spell .ensures)
+
+spell-requires : tie.Need-spell-requires
+spell-requires c κs = search needs
+
+slice-reshare-prefix-packet : tie.Need-slice-reshare-prefix-packet
+slice-reshare-prefix-packet c = search needs
+
+slice-aggregate-packet : tie.Need-slice-aggregate-packet
+slice-aggregate-packet c =
+    let s = c .before .before .before .before .before .before .before .before .before in
+    sym (length-take-le (s .args .n) (c .before .before .before .spell .last .1 .0) (omega (arith, c .before .before .before .spell .kept, s .pre)))
+
+slice-relend-prefix-read-back : tie.Need-slice-relend-prefix-read-back
+slice-relend-prefix-read-back c = search needs
+
+slice-aggregate-read-back : tie.Need-slice-aggregate-read-back
+slice-aggregate-read-back c =
+    let s = c .before .before .before .before .before .before .before .before .before .before in
+    sym (length-take-le (length (now (s .args .x))) (now (s .args .back)) (s .pre .4))
+
+read-back-requires : tie.Need-read-back-requires
+read-back-requires c κs =
+    let s = c .before .before .before .before .before .before .before .before .before .before in
+    (spelt-is (c .before .before), length-take-le (length (now (s .args .x))) (now (s .args .back)) (s .pre .4))
+
+place-requires : tie.Need-place-requires
+place-requires c κs = search needs
+
+same-length : tie.Need-same-length
+same-length c = search needs
+
+same-length-2 : tie.Need-same-length-2
+same-length-2 c = search needs
+
+same-length-3 : tie.Need-same-length-3
+same-length-3 c = search needs
+
+returns : tie.Need-returns
+returns c =
+    let s = c .before .before .before .before .before .before .before .before .before .before .before .before .before .before .before .before .before in
+    let x = now (s .args .x) in
+    let shape = s .pre .0 in
+    settled-placed x (now (s .args .o)) _ _ _ (c .before .before .before .before .before .before .read-back .ensures ∙ row-19-back x (shape .0) (shape .1) (shape .2) (omega (arith, s .pre .1, s .pre .2))) (spelt-is (c .before .before .before .before .before .before .before .before .before)) (c .before .before .place .ensures)
+
+pub write-through-spec : {M : Type 1} → statement M
+write-through-spec =
+    tie.close
+    (tie.spec
+    spell-requires
+    slice-reshare-prefix-packet
+    slice-aggregate-packet
+    slice-relend-prefix-read-back
+    slice-aggregate-read-back
+    read-back-requires
+    place-requires
+    same-length
+    same-length-2
+    same-length-3
+    returns)
