@@ -7,7 +7,7 @@ ghost use lib.Dec.{eqb};
 ghost use lib.ListN.{length};
 ghost use Rattle.text.specs.Text.{isText, textFault};
 ghost use Rattle.mask.specs.Mask.{between};
-ghost use Rattle.format.specs.Packet.{headerWidths, headerTexts, missionWidths, missionTexts, jobWidths, jobTexts, freeTextWidths, freeTextTexts};
+ghost use Rattle.format.specs.Packet.{headerWidths, headerTexts, missionWidths, missionTexts, freeTextWidths, freeTextTexts};
 ghost use Rattle.format.specs.Rows.{naming, firstRow, headerRows, missionRows, jobRows, textRows, keptRows};
 
 // The row with this number, where a field is at fault; 0 says that none is.

@@ -2,8 +2,9 @@
 -- Assumes nothing.
 use mathlib.Core.Path.{_≡_, refl, sym, ap, _∙_}
 use mathlib.Core.Bool.{true}
-use mathlib.Core.List.{List, [], _∷_, _++_}
-use Prim.Native.Nat.{ℕ, suc, _+_, _-_}
+use mathlib.Core.List.{List, [], _∷_, _++_, append-assoc}
+use Prim.Native.Nat.{ℕ, zero, suc, _+_, _-_, _*_}
+use native.Mathlib.Nat.{zero-add, suc-add, zero-mul, suc-mul}
 use native.Mathlib.Omega.{arith}
 use borrow.Author.Tests.{not-false}
 use lib.IntN.{ℤ, pos, negsuc}
@@ -18,14 +19,13 @@ use Rattle.mask.specs.Fields.{announcedLength, fullFields, targetWidths}
 use Rattle.mask.proofs.FullWidth.{length-full}
 use Rattle.position.specs.Position.{isLatitude, latitudeMicro, longitudeMicro}
 use Rattle.format.specs.declared.Area.{Area}
-use Rattle.format.specs.declared.Check.{Check}
-use Rattle.format.specs.declared.Check.the-variants.{Passed, Failed}
+use Rattle.format.specs.declared.Check.the-variants.{Passed}
 use Rattle.format.specs.Dwell.{targetFields, latitude, longitude}
 use Rattle.format.specs.Sheet.{bodyLength, targetRecord, targetRecords, recordBytes}
-use Rattle.format.specs.Rows.{firstRow, targetRows, targetsRows}
-use Rattle.format.proofs.Rows.{first-passes, first-append, orElse, passed-not-failed}
+use Rattle.format.specs.Rows.{Row, firstRow, targetRows, targetsRows}
+use Rattle.format.proofs.Rows.{first-passes, both-pass}
 use Rattle.format.proofs.Lengths.{length-one}
-use Rattle.records.proofs.Laid.{record-laid, full-body, records-next}
+use Rattle.records.proofs.Laid.{record-laid, full-body, records-next, records-append}
 
 -- a signed number has the length of its bytes
 length-signed : (k : ℕ) (z : ℤ) → length (signedBytes k z) ≡ k
@@ -85,12 +85,7 @@ module _ (mask : ℕ) (area : Area) where
   -- where no row applies to several targets, none applies to the first, and none to those behind it
   rows-split : (n : ℕ) (t : List ℕ) → firstRow (targetsRows mask area (suc n) t) ≡ Passed → (firstRow (targetRows mask area t) ≡ Passed) × (firstRow (targetsRows mask area n (drop (announcedLength mask 32 targetWidths) t)) ≡ Passed)
   unfolding targetsRows
-  rows-split n t e = go (firstRow (targetRows mask area t)) refl (sym (first-append (targetRows mask area t) (targetsRows mask area n (drop (announcedLength mask 32 targetWidths) t))) ∙ e)
-    where
-      go : (c : Check) → firstRow (targetRows mask area t) ≡ c → orElse c (firstRow (targetsRows mask area n (drop (announcedLength mask 32 targetWidths) t))) ≡ Passed
-          → (firstRow (targetRows mask area t) ≡ Passed) × (firstRow (targetsRows mask area n (drop (announcedLength mask 32 targetWidths) t)) ≡ Passed)
-      go Passed h e = (h, e)
-      go (Failed number field) h e = passed-not-failed number field (sym e)
+  rows-split n t e = both-pass (targetRows mask area t) (targetsRows mask area n (drop (announcedLength mask 32 targetWidths) t)) e
 
   -- a target to which no row applies has a latitude
   is-placed : (t : List ℕ) → firstRow (targetRows mask area t) ≡ Passed → isLatitude (latitude mask area (targetFields mask t)) ≡ true
@@ -109,3 +104,24 @@ module _ (mask : ℕ) (area : Area) where
   -- and behind it
   pub rows-next : (n k p each : ℕ) (t : List ℕ) → n ≡ suc k → each ≡ announcedLength mask 32 targetWidths → firstRow (targetsRows mask area n (drop p t)) ≡ Passed → firstRow (targetsRows mask area k (drop (p + each) t)) ≡ Passed
   rows-next n k p each t hn he e = rw (he, ← drop-drop (announcedLength mask 32 targetWidths) p t) (rows-split k (drop p t) (rw hn at e) .1)
+
+  -- ---- the first j of several targets, and those behind them
+
+  pub targets-append : (j k : ℕ) (t : List ℕ) → targetRecords mask area (j + k) t ≡ targetRecords mask area j t ++ targetRecords mask area k (drop (j * announcedLength mask 32 targetWidths) t)
+  unfolding targetRecords
+  targets-append = records-append (targetRecord mask area) (targetRecords mask area) (announcedLength mask 32 targetWidths) 45 target-step length-of-target (λ t. refl)
+
+  rows-are : (j k : ℕ) (t : List ℕ) → targetsRows mask area (j + k) t ≡ targetsRows mask area j t ++ targetsRows mask area k (drop (j * announcedLength mask 32 targetWidths) t)
+  unfolding targetsRows
+  rows-are zero k t = rw (zero-add, zero-mul)
+  rows-are (suc j) k t =
+      let u = announcedLength mask 32 targetWidths in
+      let p : u + j * u ≡ suc j * u = omega (arith, suc-mul j u) in
+      ap (λ (n : ℕ). targetsRows mask area n t) (suc-add j k)
+      ∙ ap (λ (x : List Row). targetRows mask area t ++ x) (rows-are j k (drop u t) ∙ ap (λ (x : List ℕ). targetsRows mask area j (drop u t) ++ targetsRows mask area k x) (drop-drop (j * u) u t ∙ ap (λ (n : ℕ). drop n t) p))
+      ∙ sym (append-assoc (targetRows mask area t) (targetsRows mask area j (drop u t)) (targetsRows mask area k (drop (suc j * u) t)))
+
+  -- where no row applies to all, none applies to the ones or to the others
+  pub rows-append : (j k : ℕ) (t : List ℕ) → firstRow (targetsRows mask area (j + k) t) ≡ Passed
+      → (firstRow (targetsRows mask area j t) ≡ Passed) × (firstRow (targetsRows mask area k (drop (j * announcedLength mask 32 targetWidths) t)) ≡ Passed)
+  rows-append j k t e = both-pass (targetsRows mask area j t) (targetsRows mask area k (drop (j * announcedLength mask 32 targetWidths) t)) (sym (ap firstRow (rows-are j k t)) ∙ e)

@@ -26,7 +26,7 @@ fn withhold(r: format::Reading, o: &mut [u8], q: usize)
     }
 }
 
-fn dwell_record(r: format::Reading, b: &[u8], mask: u64, o: &mut [u8])
+pub fn dwell_record(r: format::Reading, b: &[u8], mask: u64, o: &mut [u8])
     requires { ⌜ (mask ≡ maskOf (now b)) × ((n : ℕ) → isRequired n ≡ true → announced mask n ≡ true) × (8 + announcedLength mask 2 dwellWidths ≤ length (now b)) × (88 ≤ length (now o)) ⌝ }
     ensures { λ _. ⌜ now (o .exit) ≡ sets (now (o .entry)) 0 (recordBytes (dwellRecord r (now (b .entry)) ∷ [])) ⌝ }
 {
@@ -51,7 +51,7 @@ fn target_record(t: &[u8], mask: u64, area: format::Area, o: &mut [u8])
 }
 
 // So many targets from t on, to which no row applies.
-fn target_records(t: &[u8], mask: u64, area: format::Area, count: usize, o: &mut [u8])
+pub fn target_records(t: &[u8], mask: u64, area: format::Area, count: usize, o: &mut [u8])
     requires { ⌜ (count * announcedLength mask 32 targetWidths ≤ length (now t)) × (count * 45 ≤ length (now o)) × (natAbs (area .d10 .0) ≤ 2 ^ 31) × (natAbs (area .d24 .0) ≤ 2 ^ 31) × (firstRow (targetsRows mask area count (now t)) ≡ Passed) ⌝ }
     ensures { λ _. ⌜ now (o .exit) ≡ sets (now (o .entry)) 0 (recordBytes (targetRecords mask area count (now (t .entry)))) ⌝ }
 {

@@ -3,17 +3,19 @@
 -- Assumes nothing.
 use Prim.Native.Nat.{ℕ, _+_, _≤_}
 use native.Mathlib.Omega.{arith}
-use mathlib.Core.Path.{_≡_, refl, ap, _∙_}
-use mathlib.Core.Bool.{Bool, true, false, cond}
+use mathlib.Core.Path.{_≡_, refl, sym, ap, _∙_}
+use mathlib.Core.Bool.{Bool, true, false, cond, _&&_, _||_, true≢false}
 use mathlib.Core.List.{List}
-use borrow.Author.Tests.{leb-true, ltb-false, le-leb}
-use lib.Dec.{ltb, leb}
-use lib.ListN.{length}
+use borrow.Author.Tests.{leb-true, ltb-false, le-leb, eqb-true, not-false}
+use lib.Dec.{ltb, leb, eqb}
+use lib.ListN.{length, getD}
 use Rattle.octets.specs.Layout.{over}
+use Rattle.mask.specs.Mask.{between}
 use Rattle.format.specs.declared.Check.{Check}
 use Rattle.format.specs.declared.Check.the-variants.{Passed, Failed}
 use Rattle.format.specs.declared.Answer.{Answer}
 use Rattle.format.specs.declared.Answer.the-variants.{Accepted, Refused}
+use Rattle.format.specs.Packet.{isP1}
 use Rattle.format.specs.Answer.{outcome, leftBy}
 use Rattle.format.specs.Rows.{firstRow, headerRows}
 use Rattle.format.specs.Reader.{parsed, sheet, dwellsIn, targetsIn, segmentsAnswer, readingAnswer, read}
@@ -84,6 +86,24 @@ header-sized edition l e =
     let two = first-passes _ _ (one .1) in
     let sizes = neither (ltb (length l) 32) (ltb 65536 (length l)) (two .0) in
     record { long = ltb-false _ _ (sizes .0); short = ltb-false _ _ (sizes .1) }
+
+-- the first character of P1 is 1 or 3, so the version is its distance from the character 0
+digit : (a b : ℕ) → ((eqb a 0x31 || eqb a 0x33) && between 0x30 0x39 b) ≡ true → 48 ≤ a
+digit a b e = go (eqb a 0x31) (eqb a 0x33) refl refl e
+  where
+    go : (x y : Bool) → eqb a 0x31 ≡ x → eqb a 0x33 ≡ y → ((x || y) && between 0x30 0x39 b) ≡ true → 48 ≤ a
+    go true y hx hy e = omega (arith, eqb-true a 0x31 hx)
+    go false true hx hy e = omega (arith, eqb-true a 0x33 hy)
+    go false false hx hy e = absurd (true≢false (sym e))
+
+-- so in a header to which no row applies
+pub header-digit : (edition : ℕ) (l : List ℕ) → firstRow (headerRows edition l) ≡ Passed → 48 ≤ getD l 0 0
+unfolding headerRows isP1
+header-digit edition l e =
+    let one = first-passes _ _ e in
+    let two = first-passes _ _ (one .1) in
+    let three = first-passes _ _ (two .1) in
+    digit (getD l 0 0) (getD l 1 0) (not-false _ (three .0))
 
 -- ---- what an accepted reading leaves
 

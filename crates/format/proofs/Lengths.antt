@@ -11,7 +11,8 @@ use Rattle.octets.proofs.Layouts.{length-pad}
 use Rattle.format.specs.declared.Reading.{Reading}
 use Rattle.format.specs.declared.Area.{Area}
 use Rattle.format.specs.Dwell.{maskOf, dwellFields, targetCount, targetsOf, targetLength, areaOf}
-use Rattle.format.specs.Sheet.{Record, bodyLength, recordOf, dwellRecord, targetRecord, targetRecords, pieceRecord, pieceRecords, pieceCount, dwellRecords, textRecords, opaqueRecords, jobRecords, segmentRecords, recordBytes}
+use Rattle.format.specs.Sheet.{Record, bodyLength, recordOf, headerRecord, dwellRecord, targetRecord, targetRecords, pieceRecord, pieceRecords, pieceCount, dwellRecords, textRecords, opaqueRecords, jobRecords, segmentRecords, packetRecords, recordBytes}
+use Rattle.format.specs.Reader.{parsed, readingOf, sheet}
 use Rattle.format.proofs.Types.{by-number}
 
 -- the bytes of two runs of records, one after the other
@@ -44,6 +45,16 @@ pub length-one : (kind : ℕ) (b : List ℕ) → length (recordBytes (recordOf k
 unfolding recordBytes
 length-one kind b = omega (arith, length-record kind b [])
 
+-- the header's record by itself
+pub length-header : (l : List ℕ) → length (recordBytes (headerRecord l ∷ [])) ≡ 33
+unfolding headerRecord bodyLength
+length-header l = length-one 1 l
+
+-- a sheet: the header's record, and those of the segments
+pub length-sheet : (edition : ℕ) (l : List ℕ) → length (sheet edition l) ≡ 33 + length (recordBytes (packetRecords (readingOf edition l) (parsed edition l .segments)))
+unfolding sheet headerRecord bodyLength
+length-sheet edition l = length-record 1 l (packetRecords (readingOf edition l) (parsed edition l .segments)) ∙ omega arith
+
 -- a dwell and its targets
 dwell : (r : Reading) (b : List ℕ) → length (recordBytes (dwellRecords r b)) ≡ 88 + targetCount b * 45
 unfolding dwellRecords dwellRecord bodyLength
@@ -52,16 +63,16 @@ dwell r b =
     ∙ omega (arith, length-targets (maskOf b) (areaOf (dwellFields b)) (targetCount b) (targetsOf b))
 
 -- a text and its pieces
-text : (b : List ℕ) → length (recordBytes (textRecords b)) ≡ 25 + pieceCount (length b - 20) * 34
+pub length-text : (b : List ℕ) → length (recordBytes (textRecords b)) ≡ 25 + pieceCount (length b - 20) * 34
 unfolding textRecords bodyLength
-text b =
+length-text b =
     length-record 5 _ (pieceRecords (pieceCount (length (drop 20 b))) (drop 20 b))
     ∙ omega (arith, length-pieces (pieceCount (length (drop 20 b))) (drop 20 b), ap (λ (n : ℕ). pieceCount n) (length-drop 20 b))
 
 -- an opaque body and its pieces
-opaque : (type : ℕ) (b : List ℕ) → length (recordBytes (opaqueRecords type b)) ≡ 6 + pieceCount (length b) * 34
+pub length-opaque : (type : ℕ) (b : List ℕ) → length (recordBytes (opaqueRecords type b)) ≡ 6 + pieceCount (length b) * 34
 unfolding opaqueRecords bodyLength
-opaque type b = length-record 7 _ (pieceRecords (pieceCount (length b)) b) ∙ omega (arith, length-pieces (pieceCount (length b)) b)
+length-opaque type b = length-record 7 _ (pieceRecords (pieceCount (length b)) b) ∙ omega (arith, length-pieces (pieceCount (length b)) b)
 
 -- a job definition
 job : (r : Reading) (b : List ℕ) → length (recordBytes (jobRecords r b)) ≡ 70
@@ -87,8 +98,8 @@ length-segment r type b =
     (length-one 2 b)
     (dwell r b)
     (job r b)
-    (text b)
+    (length-text b)
     (length-one 9 b)
     (length-one 10 b)
-    (λ t h1 h2 h5 h6 h10 h13. rw (h1, h2, h5, h6, h10, h13) (opaque t b))
+    (λ t h1 h2 h5 h6 h10 h13. rw (h1, h2, h5, h6, h10, h13) (length-opaque t b))
     type

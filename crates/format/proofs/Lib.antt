@@ -5,6 +5,8 @@ pub mod Listing
 pub mod Lengths
 pub mod Segments
 pub mod Turns
+pub mod Filling
+pub mod ByType
 pub mod Bodies
 pub mod Dwells
 pub mod Acceptance

@@ -2,7 +2,7 @@
 -- Assumes nothing.
 use Prim.Native.Nat.{ℕ, _≤_}
 use native.Mathlib.Omega.{arith}
-use mathlib.Core.Path.{_≡_, refl, sym}
+use mathlib.Core.Path.{_≡_, refl, sym, _∙_}
 use mathlib.Core.Bool.{Bool, true, false, cond, _&&_, _||_, true≢false}
 use mathlib.Core.List.{List, [], _∷_, _++_}
 use borrow.Author.Tests.{ltb-false, not-false}
@@ -40,6 +40,14 @@ first-append (r ∷ rs) qs = go (r .applies) (first-append rs qs)
         → cond b (Failed (r .number) (r .field)) (firstRow (rs ++ qs)) ≡ orElse (cond b (Failed (r .number) (r .field)) (firstRow rs)) (firstRow qs)
     go true h = refl
     go false h = h
+
+-- where no row of the two lists applies, none of either does
+pub both-pass : (rs qs : List Row) → firstRow (rs ++ qs) ≡ Passed → (firstRow rs ≡ Passed) × (firstRow qs ≡ Passed)
+both-pass rs qs e = go (firstRow rs) refl (sym (first-append rs qs) ∙ e)
+  where
+    go : (c : Check) → firstRow rs ≡ c → orElse c (firstRow qs) ≡ Passed → (firstRow rs ≡ Passed) × (firstRow qs ≡ Passed)
+    go Passed h e = (h, e)
+    go (Failed number field) h e = passed-not-failed number field (sym e)
 
 -- where "the one or the other" is false, both are
 pub neither : (a b : Bool) → (a || b) ≡ false → (a ≡ false) × (b ≡ false)

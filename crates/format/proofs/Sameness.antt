@@ -1,6 +1,6 @@
 -- When two runs of bytes are the same, by the test of the writer.
 -- Assumes nothing.
-use Prim.Native.Nat.{ℕ, _+_, _<_}
+use Prim.Native.Nat.{ℕ, _+_, _≤_, _<_}
 use native.Mathlib.Numerals.{add-one}
 use native.Mathlib.Omega.{arith}
 use mathlib.Core.Path.{_≡_, refl, sym, ap, ap₂, _∙_}
@@ -8,7 +8,7 @@ use mathlib.Core.Bool.{Bool, true, false, _&&_, true≢false, and-true, and-asso
 use mathlib.Core.List.{List, [], _∷_, _++_}
 use borrow.Author.Tests.{eq-eqb, eqb-true}
 use lib.Dec.{eqb}
-use lib.ListN.{length, getD, take}
+use lib.ListN.{length, getD, take, drop}
 use lib.Seq.{take-suc, length-take-le}
 use Rattle.format.specs.Writer.{isSame}
 
@@ -47,6 +47,15 @@ pub same-behind : (p l m : List ℕ) → isSame (p ++ l) (p ++ m) ≡ isSame l m
 unfolding isSame
 same-behind [] l m = refl
 same-behind (x ∷ p) l m = rw (eq-eqb x x refl) (same-behind p l m)
+
+-- two runs in a row are the same as x where each is the same as its part of x
+pub same-split : (a b x : List ℕ) → length a ≤ length x → isSame (a ++ b) x ≡ (isSame a (take (length a) x) && isSame b (drop (length a) x))
+unfolding isSame
+same-split [] b x h = refl
+same-split (u ∷ a) b [] h = absurd (omega arith)
+same-split (u ∷ a) b (v ∷ x) h =
+    ap (λ (t : Bool). eqb u v && t) (same-split a b x (omega arith))
+    ∙ sym (and-assoc (eqb u v) (isSame a (take (length a) x)) (isSame b (drop (length a) x)))
 
 -- with one byte more on each side
 pub same-more : (a b : List ℕ) (i : ℕ) → i < length a → i < length b → isSame (take (i + 1) a) (take (i + 1) b) ≡ (isSame (take i a) (take i b) && eqb (getD a i 0) (getD b i 0))

@@ -34,7 +34,7 @@ unfolding bodyAt
 length-body l h = length-drop 5 (take (sizeAt l) l) ∙ ap (λ (n : ℕ). n - 5) (length-take-le (sizeAt l) l h)
 
 -- the k bytes behind the first a
-part-is : (a k : ℕ) (l : List ℕ) → take k (drop a l) ≡ drop a (take (a + k) l)
+pub part-is : (a k : ℕ) (l : List ℕ) → take k (drop a l) ≡ drop a (take (a + k) l)
 part-is zero k l = rw zero-add
 part-is (suc a) zero [] = rw suc-add
 part-is (suc a) (suc k) [] = rw suc-add

@@ -53,12 +53,9 @@ alike-by l s d t older newer buffer filled f w e b r = r ∙ ap (isReturned l s 
 
 module _ (l : List ℕ) (s d t n : ℕ) (a : Answer) (older newer buffer : List ℕ) where
   -- a refusal, by the test of its number
-  pub older-refused : (number segment field : ℕ) → a ≡ Refused number segment field → (b : Bool) → eqb number 15 ≡ b
-      → cond b New Broken ≡ olderVerdict l s d t n a older newer buffer
+  pub older-refused : (number segment field : ℕ) → a ≡ Refused number segment field → cond (eqb number 15) New Broken ≡ olderVerdict l s d t n a older newer buffer
   unfolding olderVerdict
-  older-refused number segment field e b h =
-      ap (λ (x : Bool). cond x New Broken) (sym h)
-      ∙ ap (λ (x : Answer). olderVerdict l s d t n x older newer buffer) (sym e)
+  older-refused number segment field e = ap (λ (x : Answer). olderVerdict l s d t n x older newer buffer) (sym e)
 
   module _ (s1 d1 t1 n1 : ℕ) (e : a ≡ Accepted s1 d1 t1 n1) where
     -- an acceptance, by the test of its counts and its length

@@ -1,12 +1,14 @@
 // Runs demand 3 on packets: reads a list of them from standard input, one a line, as `NAME: HEX`. It answers each by `NAME: ` and `alike`
 // or `new` with the answer of the Edition 1 reading, or by the refusal of the Edition 3 reading, or by `broken`.
 ghost use mathlib.Core.Path.{_≡_};
+ghost use mathlib.Core.Bool.{cond};
 ghost use Prim.Native.Nat.{_+_, _/_, _≤_};
+ghost use lib.Dec.{eqb};
 ghost use lib.ListN.{length};
 ghost use Rattle.format.specs.Packet.{version};
 ghost use Rattle.format.specs.Answer.{outcome};
 ghost use Rattle.format.specs.Reader.{read};
-ghost use Rattle.gmti_editions.specs.declared.Verdict.the-variants.{Broken};
+ghost use Rattle.gmti_editions.specs.declared.Verdict.the-variants.{New, Broken};
 ghost use Rattle.gmti_editions.specs.Verdict.{isReturned, isAlike, olderVerdict, verdict as verdictOf};
 
 // What a run of demand 3 on a packet finds.
@@ -47,7 +49,7 @@ fn is_returned(l: &[u8], s: usize, d: usize, t: usize, a: format::Answer, buffer
             if s != segments || d != dwells || t != targets {
                 return false;
             }
-            writer::same(printing::front(buffer, length), l)
+            comparing::same(printing::front(buffer, length), l)
         }
     }
 }
@@ -67,6 +69,17 @@ fn is_alike(
     filling::fill_in(older, newer);
     let a = writer::write(older, buffer);
     is_returned(l, s, d, t, a, buffer)
+}
+
+// The verdict where the Edition 1 reading alone refuses, with this number.
+fn refusal_verdict(number: usize) -> Verdict
+    ensures { λ v. ⌜ v ≡ cond (eqb number 15) New Broken ⌝ }
+{
+    if number == 15 {
+        Verdict::New
+    } else {
+        Verdict::Broken
+    }
 }
 
 // The verdict where the Edition 3 reading accepts with these counts and this length.
@@ -89,13 +102,7 @@ fn older_verdict(
             number,
             segment: _,
             field: _,
-        } => {
-            if number == 15 {
-                Verdict::New
-            } else {
-                Verdict::Broken
-            }
-        }
+        } => refusal_verdict(number),
         format::Answer::Accepted {
             segments,
             dwells,

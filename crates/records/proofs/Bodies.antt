@@ -45,24 +45,40 @@ job-laid r b l {x} {y} {z} h hx hy hz hw =
 
 -- ---- bodies that are carried by pieces
 
--- a text: F1 and F2, the length of F3, and the pieces
-pub text-laid : (b l : List ℕ) {x y z w : List ℕ}
-    → 20 ≤ length b → x ≡ sets l 0 (5 ∷ []) → y ≡ sets x 1 (take 20 (drop 0 b)) → z ≡ sets y 21 (bytes 4 (length b - 20)) → w ≡ sets z 25 (recordBytes (piecesOf (drop 20 b)))
-    → w ≡ sets l 0 (recordBytes (textRecords b))
-unfolding textRecords bodyLength
-text-laid b l {x} h hx hy hz hw =
+-- the record of a text: F1 and F2, and the length of F3
+pub text-first : (b l : List ℕ) {x y w : List ℕ}
+    → 20 ≤ length b → x ≡ sets l 0 (5 ∷ []) → y ≡ sets x 1 (take 20 (drop 0 b)) → w ≡ sets y 21 (bytes 4 (length b - 20))
+    → w ≡ sets l 0 (recordBytes (recordOf 5 (take 20 b ++ bytes 4 (length b - 20)) ∷ []))
+unfolding bodyLength
+text-first b l {x} h hx hy hw =
     let n = length b - 20 in
     let v = take 20 b ++ bytes 4 n in
     let t : length (take 20 b) ≡ 20 = length-take-le 20 b h in
     let m : length v ≡ 24 = length-append (take 20 b) (bytes 4 n) ∙ omega (arith, length-bytes 4 n) in
-    records-then (recordOf 5 v ∷ []) (piecesOf (drop 20 b)) l 0 25 (record-laid 5 v v l (full-body 5 v m) hx (then (take 20 b) (bytes 4 n) x 1 20 hy t hz)) (length-one 5 v) hw
+    record-laid 5 v v l (full-body 5 v m) hx (then (take 20 b) (bytes 4 n) x 1 20 hy t hw)
 
--- an opaque segment: the type, the length, and the pieces
-pub opaque-laid : (type : ℕ) (b l : List ℕ) {x y z w : List ℕ}
-    → x ≡ sets l 0 (7 ∷ []) → y ≡ sets x 1 (type ∷ []) → z ≡ sets y 2 (bytes 4 (length b)) → w ≡ sets z 6 (recordBytes (piecesOf b))
-    → w ≡ sets l 0 (recordBytes (opaqueRecords type b))
-unfolding opaqueRecords bodyLength
-opaque-laid type b l {x} hx hy hz hw =
+-- and the pieces behind it
+pub text-laid : (b l : List ℕ) {z w : List ℕ}
+    → z ≡ sets l 0 (recordBytes (recordOf 5 (take 20 b ++ bytes 4 (length b - 20)) ∷ [])) → w ≡ sets z 25 (recordBytes (piecesOf (drop 20 b)))
+    → w ≡ sets l 0 (recordBytes (textRecords b))
+unfolding textRecords bodyLength
+text-laid b l hz hw =
+    let v = take 20 b ++ bytes 4 (length b - 20) in
+    records-then (recordOf 5 v ∷ []) (piecesOf (drop 20 b)) l 0 25 hz (length-one 5 v) hw
+
+-- the record of an opaque segment: the type, and the length
+pub opaque-first : (type : ℕ) (b l : List ℕ) {x y w : List ℕ}
+    → x ≡ sets l 0 (7 ∷ []) → y ≡ sets x 1 (type ∷ []) → w ≡ sets y 2 (bytes 4 (length b)) → w ≡ sets l 0 (recordBytes (recordOf 7 (type ∷ bytes 4 (length b)) ∷ []))
+unfolding bodyLength
+opaque-first type b l {x} hx hy hw =
     let v = type ∷ bytes 4 (length b) in
     let m : length v ≡ 5 = ap suc (length-bytes 4 (length b)) in
-    records-then (recordOf 7 v ∷ []) (piecesOf b) l 0 6 (record-laid 7 v v l (full-body 7 v m) hx (then (type ∷ []) (bytes 4 (length b)) x 1 1 hy refl hz)) (length-one 7 v) hw
+    record-laid 7 v v l (full-body 7 v m) hx (then (type ∷ []) (bytes 4 (length b)) x 1 1 hy refl hw)
+
+-- and the pieces behind it
+pub opaque-laid : (type : ℕ) (b l : List ℕ) {z w : List ℕ}
+    → z ≡ sets l 0 (recordBytes (recordOf 7 (type ∷ bytes 4 (length b)) ∷ [])) → w ≡ sets z 6 (recordBytes (piecesOf b)) → w ≡ sets l 0 (recordBytes (opaqueRecords type b))
+unfolding opaqueRecords bodyLength
+opaque-laid type b l hz hw =
+    let v = type ∷ bytes 4 (length b) in
+    records-then (recordOf 7 v ∷ []) (piecesOf b) l 0 6 hz (length-one 7 v) hw

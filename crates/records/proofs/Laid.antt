@@ -3,7 +3,7 @@
 use mathlib.Core.Path.{_≡_, refl, sym, ap, _∙_}
 use mathlib.Core.List.{List, [], _∷_, _++_, append-nil}
 use Prim.Native.Nat.{ℕ, zero, suc, _+_, _-_, _*_, _≤_}
-use native.Mathlib.Nat.{zero-mul, suc-mul}
+use native.Mathlib.Nat.{zero-add, suc-add, zero-mul, suc-mul}
 use native.Mathlib.Omega.{arith}
 use lib.ListN.{length, take, drop, length-append}
 use lib.Seq.{sets, drop-drop}
@@ -63,3 +63,13 @@ module _ (r : List ℕ → Record) (rs : ℕ → List ℕ → List Record) (u w 
       ∙ ap length (bytes-append (r b ∷ []) (rs n (drop u b)))
       ∙ length-append (recordBytes (r b ∷ [])) (recordBytes (rs n (drop u b)))
       ∙ omega (arith, len b, length-records none n (drop u b), suc-mul n w)
+
+  -- the first j, and those behind them
+  pub records-append : (none : (b : List ℕ) → rs 0 b ≡ []) (j k : ℕ) (b : List ℕ) → rs (j + k) b ≡ rs j b ++ rs k (drop (j * u) b)
+  records-append none zero k b =
+      rw (zero-add, zero-mul) (sym (ap (λ (x : List Record). x ++ rs k b) (none b)))
+  records-append none (suc j) k b =
+      let p : u + j * u ≡ suc j * u = omega (arith, suc-mul j u) in
+      ap (λ (n : ℕ). rs n b) (suc-add j k) ∙ step (j + k) b
+      ∙ ap (λ (x : List Record). r b ∷ x) (records-append none j k (drop u b) ∙ ap (λ (x : List ℕ). rs j (drop u b) ++ rs k x) (drop-drop (j * u) u b ∙ ap (λ (n : ℕ). drop n b) p))
+      ∙ sym (ap (λ (x : List Record). x ++ rs k (drop (suc j * u) b)) (step j b))

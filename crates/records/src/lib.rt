@@ -1,12 +1,13 @@
 // The records of a sheet that are laid out from bytes at constant places: a filler for each gets the sheet from its place on.
 ghost use mathlib.Core.Path.{_≡_};
 ghost use mathlib.Core.Bool.{cond};
-ghost use mathlib.Core.List.{[], _∷_};
+ghost use mathlib.Core.List.{[], _∷_, _++_};
 ghost use Prim.Native.Nat.{_+_, _-_, _*_, _≤_};
-ghost use lib.ListN.{length};
+ghost use lib.ListN.{length, take};
 ghost use lib.Seq.{sets};
+ghost use Rattle.octets.specs.Octets.{bytes};
 ghost use Rattle.format.specs.Edition.{isOlder};
-ghost use Rattle.format.specs.Sheet.{headerRecord, pieceRecord, pieceRecords, piecesOf, pieceCount, missionRecords, textRecords, opaqueRecords, jobRecords, testRecords, locationRecords, recordBytes};
+ghost use Rattle.format.specs.Sheet.{recordOf, headerRecord, pieceRecord, pieceRecords, piecesOf, pieceCount, missionRecords, textRecords, opaqueRecords, jobRecords, testRecords, locationRecords, recordBytes};
 
 // A byte by itself: a record's kind, a type, a count or a mark.
 pub fn put_byte(o: &mut [u8], q: usize, v: u8)
@@ -96,7 +97,7 @@ fn full_pieces(b: &[u8], count: usize, o: &mut [u8])
 }
 
 // The pieces that carry b.
-fn piece_records(b: &[u8], o: &mut [u8])
+pub fn piece_records(b: &[u8], o: &mut [u8])
     requires { ⌜ pieceCount (length (now b)) * 34 ≤ length (now o) ⌝ }
     ensures { λ _. ⌜ now (o .exit) ≡ sets (now (o .entry)) 0 (recordBytes (piecesOf (now (b .entry)))) ⌝ }
 {
@@ -110,22 +111,38 @@ fn piece_records(b: &[u8], o: &mut [u8])
     }
 }
 
-pub fn text_records(b: &[u8], o: &mut [u8])
-    requires { ⌜ (20 ≤ length (now b)) × (length (now b) ≤ 65536) × (25 + pieceCount (length (now b) - 20) * 34 ≤ length (now o)) ⌝ }
-    ensures { λ _. ⌜ now (o .exit) ≡ sets (now (o .entry)) 0 (recordBytes (textRecords (now (b .entry)))) ⌝ }
+// The record of a text, without its pieces.
+pub fn text_record(b: &[u8], o: &mut [u8])
+    requires { ⌜ (20 ≤ length (now b)) × (length (now b) ≤ 65536) × (25 ≤ length (now o)) ⌝ }
+    ensures { λ _. ⌜ now (o .exit) ≡ sets (now (o .entry)) 0 (recordBytes (recordOf 5 (take 20 (now (b .entry)) ++ bytes 4 (length (now (b .entry)) - 20)) ∷ [])) ⌝ }
 {
     put_byte(o, 0, format::TextRecord::KIND);
     copies::copy20(b, 0, o, 1);
     octets::put_u32(o, 21, (b.len() - 20) as u32);
+}
+
+pub fn text_records(b: &[u8], o: &mut [u8])
+    requires { ⌜ (20 ≤ length (now b)) × (length (now b) ≤ 65536) × (25 + pieceCount (length (now b) - 20) * 34 ≤ length (now o)) ⌝ }
+    ensures { λ _. ⌜ now (o .exit) ≡ sets (now (o .entry)) 0 (recordBytes (textRecords (now (b .entry)))) ⌝ }
+{
+    text_record(b, o);
     piece_records(&b[20..], &mut o[1 + format::TextRecord::LEN..]);
+}
+
+// The record of an opaque segment, without its pieces.
+pub fn opaque_record(kind: u8, b: &[u8], o: &mut [u8])
+    requires { ⌜ (length (now b) ≤ 65536) × (6 ≤ length (now o)) ⌝ }
+    ensures { λ _. ⌜ now (o .exit) ≡ sets (now (o .entry)) 0 (recordBytes (recordOf 7 (kind ∷ bytes 4 (length (now (b .entry)))) ∷ [])) ⌝ }
+{
+    put_byte(o, 0, format::OpaqueRecord::KIND);
+    put_byte(o, 1, kind);
+    octets::put_u32(o, 2, b.len() as u32);
 }
 
 pub fn opaque_records(kind: u8, b: &[u8], o: &mut [u8])
     requires { ⌜ (length (now b) ≤ 65536) × (6 + pieceCount (length (now b)) * 34 ≤ length (now o)) ⌝ }
     ensures { λ _. ⌜ now (o .exit) ≡ sets (now (o .entry)) 0 (recordBytes (opaqueRecords kind (now (b .entry)))) ⌝ }
 {
-    put_byte(o, 0, format::OpaqueRecord::KIND);
-    put_byte(o, 1, kind);
-    octets::put_u32(o, 2, b.len() as u32);
+    opaque_record(kind, b, o);
     piece_records(b, &mut o[1 + format::OpaqueRecord::LEN..]);
 }

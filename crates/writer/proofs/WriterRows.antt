@@ -21,7 +21,7 @@ use Rattle.format.specs.Writer.{listed, isHeaded, isComplete, spell, readsBack,
 use Rattle.format.proofs.Rows.{orElse, first-append}
 use Rattle.format.proofs.Acceptance.{no-refusal, same-length}
 use Rattle.writer.specs.Placed.{placed}
-use Rattle.writer.proofs.ReadingBack.{back-longest, backAnswer}
+use Rattle.writer.proofs.ReadingBack.{backAnswer}
 
 -- ---- rows 17 to 19
 
@@ -63,14 +63,6 @@ module _ (x : List ℕ) where
     -- "spelt bytes above 65,536"
     pub row-19-packet : 65536 < length (spell x) → Refused 19 0 0 ≡ sheetAnswer x
     row-19-packet l = sym (shaped ∙ ap (λ (b : Bool). byRows x false false (b || not (readsBack (spell x) x))) (lt-ltb 65536 (length (spell x)) l))
-
-    -- no reading gives a sheet so long
-    pub row-19-sheet : 736953 < length x → Refused 19 0 0 ≡ sheetAnswer x
-    row-19-sheet l = sym (shaped ∙ ap (λ (b : Bool). byRows x false false (ltb 65536 (length (spell x)) || not b)) (back-longest (spell x) x l) ∙ go (ltb 65536 (length (spell x))))
-      where
-        go : (b : Bool) → byRows x false false (b || true) ≡ Refused 19 0 0
-        go true = refl
-        go false = refl
 
     -- otherwise reading back decides
     pub row-19-back : length (spell x) ≤ 65536 → backAnswer x ≡ sheetAnswer x

@@ -1,36 +1,14 @@
 // The writer: a sheet of any bytes, back to the packet that reads to it.
 ghost use mathlib.Core.Path.{_≡_};
-ghost use mathlib.Core.Bool.{_&&_, cond};
+ghost use mathlib.Core.Bool.{cond};
 ghost use Prim.Native.Nat.{_≤_};
-ghost use lib.Dec.{eqb};
 ghost use lib.ListN.{length};
 ghost use Rattle.format.specs.declared.Check.the-variants.{Passed, Failed};
 ghost use Rattle.format.specs.declared.Answer.the-variants.{Refused};
 ghost use Rattle.format.specs.Answer.{outcome};
-ghost use Rattle.format.specs.Writer.{spell, isSame, readsBack, writerAnswer, sheetAnswer, write as writeOutcome};
+ghost use Rattle.format.specs.Writer.{spell, readsBack, writerAnswer, sheetAnswer, write as writeOutcome};
 ghost use Rattle.shape.specs.Shape.{Shaped};
 ghost use Rattle.writer.specs.Placed.{placed};
-
-// Whether what was equal so far is equal with one byte more.
-fn still_equal(equal: bool, x: u8, y: u8) -> bool
-    ensures { λ r. ⌜ r ≡ (equal && eqb x y) ⌝ }
-{
-    if x == y { equal } else { false }
-}
-
-// Whether two runs of bytes are equal. The loop goes on where they differ: without a way out it takes many bytes in a step.
-pub fn same(a: &[u8], b: &[u8]) -> bool
-    ensures { λ r. ⌜ r ≡ isSame (now (a .entry)) (now (b .entry)) ⌝ }
-{
-    if a.len() != b.len() {
-        return false;
-    }
-    let mut equal = true;
-    for i in 0..a.len() {
-        equal = still_equal(equal, a[i], b[i]);
-    }
-    equal
-}
 
 fn refused(number: usize) -> format::Answer
     ensures { λ a. ⌜ a ≡ Refused number 0 0 ⌝ }
@@ -42,12 +20,13 @@ fn refused(number: usize) -> format::Answer
     }
 }
 
-// Row 19 of the packet that x spells: it is read back onto a sheet as long as x, and must give x.
-fn read_back(packet: &[u8], x: &[u8], back: &mut [u8]) -> format::Answer
-    requires { ⌜ (now packet ≡ spell (now x)) × (length (now back) ≡ length (now x)) ⌝ }
+// Row 19 of the packet that x spells: it must read to x. Only the packet's rows and the length of its sheet are worked out first; the
+// sheet is then compared with x a few records at a time.
+fn read_back(packet: &[u8], x: &[u8], window: &mut [u8]) -> format::Answer
+    requires { ⌜ (now packet ≡ spell (now x)) × (1024 ≤ length (now window)) ⌝ }
     ensures { λ a. ⌜ a ≡ writerAnswer (now (x .entry)) (cond (readsBack (spell (now (x .entry))) (now (x .entry))) Passed (Failed 19 0)) ⌝ }
 {
-    match reader::read(3, packet, back) {
+    match reader::check(3, packet) {
         format::Answer::Refused {
             number: _,
             segment: _,
@@ -59,7 +38,7 @@ fn read_back(packet: &[u8], x: &[u8], back: &mut [u8]) -> format::Answer
             targets,
             length,
         } => {
-            if length == x.len() && same(back, x) {
+            if length == x.len() && comparing::is_sheet(3, packet, x, window) {
                 format::Answer::Accepted {
                     segments,
                     dwells,
@@ -96,115 +75,112 @@ fn place(a: format::Answer, packet: &[u8], o: &mut [u8])
     }
 }
 
-// A sheet of the right shape that spells n bytes: spelt into one lent array, and read back into another.
+// A sheet of the right shape that spells n bytes: spelt into a lent array, and read back.
 fn write_through(
     x: &[u8],
     n: usize,
     spelt: &mut [u8],
-    back: &mut [u8],
+    window: &mut [u8],
     o: &mut [u8],
 ) -> format::Answer
-    requires { ⌜ (Shaped (now x)) × (n ≡ length (spell (now x))) × (n ≤ 65536) × (n ≤ length (now spelt)) × (length (now x) ≤ length (now back)) ⌝ }
+    requires { ⌜ (Shaped (now x)) × (n ≡ length (spell (now x))) × (n ≤ 65536) × (n ≤ length (now spelt)) × (1024 ≤ length (now window)) ⌝ }
     ensures { λ a. ⌜ a ≡ sheetAnswer (now (x .entry)) ⌝ }
     ensures { λ _. ⌜ now (o .exit) ≡ placed (sheetAnswer (now (x .entry))) (spell (now (x .entry))) (now (o .entry)) ⌝ }
 {
     spelling::spell(x, spelt);
-    let m = x.len();
     let packet = &spelt[..n];
-    let a = read_back(packet, x, &mut back[..m]);
+    let a = read_back(packet, x, window);
     place(a, packet, o);
     a
 }
 
-// An array is cleared before it is lent, so the arrays go by the sheet: 4,096 and 16,384 bytes, 65,536 and 131,072, or room for the
-// longest packet and the longest sheet.
+// An array is cleared before it is lent, so its size goes by the packet's length: 1,024 bytes, 8,192, or room for the longest packet.
 fn small_in(
     x: &[u8],
     n: usize,
-    spelt: &mut [u8; 4096],
-    back: &mut [u8; 16384],
+    spelt: &mut [u8; 1024],
+    window: &mut [u8; 1024],
     o: &mut [u8],
 ) -> format::Answer
-    requires { ⌜ (Shaped (now x)) × (n ≡ length (spell (now x))) × (n ≤ 4096) × (length (now x) ≤ 16384) ⌝ }
+    requires { ⌜ (Shaped (now x)) × (n ≡ length (spell (now x))) × (n ≤ 1024) ⌝ }
     ensures { λ a. ⌜ a ≡ sheetAnswer (now (x .entry)) ⌝ }
     ensures { λ _. ⌜ now (o .exit) ≡ placed (sheetAnswer (now (x .entry))) (spell (now (x .entry))) (now (o .entry)) ⌝ }
 {
-    write_through(x, n, spelt, back, o)
+    write_through(x, n, spelt, window, o)
 }
 
 fn write_small(x: &[u8], n: usize, o: &mut [u8]) -> format::Answer
-    requires { ⌜ (Shaped (now x)) × (n ≡ length (spell (now x))) × (n ≤ 4096) × (length (now x) ≤ 16384) ⌝ }
+    requires { ⌜ (Shaped (now x)) × (n ≡ length (spell (now x))) × (n ≤ 1024) ⌝ }
     ensures { λ a. ⌜ a ≡ sheetAnswer (now (x .entry)) ⌝ }
     ensures { λ _. ⌜ now (o .exit) ≡ placed (sheetAnswer (now (x .entry))) (spell (now (x .entry))) (now (o .entry)) ⌝ }
 {
-    let mut spelt = [0u8; 4096];
-    let mut back = [0u8; 16384];
-    small_in(x, n, &mut spelt, &mut back, o)
+    let mut spelt = [0u8; 1024];
+    let mut window = [0u8; 1024];
+    small_in(x, n, &mut spelt, &mut window, o)
 }
 
 fn middle_in(
     x: &[u8],
     n: usize,
-    spelt: &mut [u8; 65536],
-    back: &mut [u8; 131072],
+    spelt: &mut [u8; 8192],
+    window: &mut [u8; 1024],
     o: &mut [u8],
 ) -> format::Answer
-    requires { ⌜ (Shaped (now x)) × (n ≡ length (spell (now x))) × (n ≤ 65536) × (length (now x) ≤ 131072) ⌝ }
+    requires { ⌜ (Shaped (now x)) × (n ≡ length (spell (now x))) × (n ≤ 8192) ⌝ }
     ensures { λ a. ⌜ a ≡ sheetAnswer (now (x .entry)) ⌝ }
     ensures { λ _. ⌜ now (o .exit) ≡ placed (sheetAnswer (now (x .entry))) (spell (now (x .entry))) (now (o .entry)) ⌝ }
 {
-    write_through(x, n, spelt, back, o)
+    write_through(x, n, spelt, window, o)
 }
 
 fn write_middle(x: &[u8], n: usize, o: &mut [u8]) -> format::Answer
-    requires { ⌜ (Shaped (now x)) × (n ≡ length (spell (now x))) × (n ≤ 65536) × (length (now x) ≤ 131072) ⌝ }
+    requires { ⌜ (Shaped (now x)) × (n ≡ length (spell (now x))) × (n ≤ 8192) ⌝ }
     ensures { λ a. ⌜ a ≡ sheetAnswer (now (x .entry)) ⌝ }
     ensures { λ _. ⌜ now (o .exit) ≡ placed (sheetAnswer (now (x .entry))) (spell (now (x .entry))) (now (o .entry)) ⌝ }
 {
-    let mut spelt = [0u8; 65536];
-    let mut back = [0u8; 131072];
-    middle_in(x, n, &mut spelt, &mut back, o)
+    let mut spelt = [0u8; 8192];
+    let mut window = [0u8; 1024];
+    middle_in(x, n, &mut spelt, &mut window, o)
 }
 
 fn large_in(
     x: &[u8],
     n: usize,
     spelt: &mut [u8; 65536],
-    back: &mut [u8; 736953],
+    window: &mut [u8; 1024],
     o: &mut [u8],
 ) -> format::Answer
-    requires { ⌜ (Shaped (now x)) × (n ≡ length (spell (now x))) × (n ≤ 65536) × (length (now x) ≤ 736953) ⌝ }
+    requires { ⌜ (Shaped (now x)) × (n ≡ length (spell (now x))) × (n ≤ 65536) ⌝ }
     ensures { λ a. ⌜ a ≡ sheetAnswer (now (x .entry)) ⌝ }
     ensures { λ _. ⌜ now (o .exit) ≡ placed (sheetAnswer (now (x .entry))) (spell (now (x .entry))) (now (o .entry)) ⌝ }
 {
-    write_through(x, n, spelt, back, o)
+    write_through(x, n, spelt, window, o)
 }
 
 fn write_large(x: &[u8], n: usize, o: &mut [u8]) -> format::Answer
-    requires { ⌜ (Shaped (now x)) × (n ≡ length (spell (now x))) × (n ≤ 65536) × (length (now x) ≤ 736953) ⌝ }
+    requires { ⌜ (Shaped (now x)) × (n ≡ length (spell (now x))) × (n ≤ 65536) ⌝ }
     ensures { λ a. ⌜ a ≡ sheetAnswer (now (x .entry)) ⌝ }
     ensures { λ _. ⌜ now (o .exit) ≡ placed (sheetAnswer (now (x .entry))) (spell (now (x .entry))) (now (o .entry)) ⌝ }
 {
     let mut spelt = [0u8; 65536];
-    let mut back = [0u8; 736953];
-    large_in(x, n, &mut spelt, &mut back, o)
+    let mut window = [0u8; 1024];
+    large_in(x, n, &mut spelt, &mut window, o)
 }
 
-// A sheet of the right shape. No packet is longer than 65,536 bytes, and no reading's sheet longer than 736,953.
+// A sheet of the right shape. No packet is longer than 65,536 bytes.
 fn write_shaped(x: &[u8], o: &mut [u8]) -> format::Answer
     requires { ⌜ Shaped (now x) ⌝ }
     ensures { λ a. ⌜ a ≡ sheetAnswer (now (x .entry)) ⌝ }
     ensures { λ _. ⌜ now (o .exit) ≡ placed (sheetAnswer (now (x .entry))) (spell (now (x .entry))) (now (o .entry)) ⌝ }
 {
     let n = spelling::spelt_length(x);
-    let m = x.len();
-    if 65536 < n || 736953 < m {
+    if 65536 < n {
         return refused(19);
     }
-    if n <= 4096 && m <= 16384 {
+    if n <= 1024 {
         return write_small(x, n, o);
     }
-    if m <= 131072 {
+    if n <= 8192 {
         return write_middle(x, n, o);
     }
     write_large(x, n, o)

@@ -1,7 +1,7 @@
 -- `gmti_editions::older_verdict` meets its contract. The Edition 1 reading's answer by cases, and its counts by the tests.
 -- Assumes nothing.
 use mathlib.Core.Path.{_≡_, sym, ap, _∙_}
-use mathlib.Core.Bool.{Bool, true, false, cond, and-false}
+use mathlib.Core.Bool.{Bool, cond, and-false}
 use mathlib.Core.Logic.{⊎-elim}
 use borrow.Author.Needs.{needs}
 use borrow.Author.Tests.{eq-eqb, ne-eqb, not-true, not-false}
@@ -22,6 +22,9 @@ verdictAt c = olderVerdict (now (c .args .l)) (c .args .s) (c .args .d) (c .args
 enum-known-a : tie.Need-enum-known-a
 enum-known-a c = search needs
 
+refusal-verdict-requires : tie.Need-refusal-verdict-requires
+refusal-verdict-requires c κs = search needs
+
 enum-known-a-2 : tie.Need-enum-known-a-2
 enum-known-a-2 c = search needs
 
@@ -37,7 +40,7 @@ returns c =
     (⊎-elim
     (λ w. simp (not-true (eqb (x .t) (a .0 .1 .1 .0)) (w .2 .taken), and-false))
     (λ w. simp (not-true (eqb (x .n) (a .0 .1 .1 .1 .0)) (w .3 .taken), and-false))))
-    (c .if2 .came))
+    (c .if1 .came))
 
 slice-relend-prefix-is-alike : tie.Need-slice-relend-prefix-is-alike
 slice-relend-prefix-is-alike c = search needs
@@ -59,15 +62,8 @@ returns-2 : tie.Need-returns-2
 returns-2 c =
     let x = c .before .before .before .before .before .before .before .before .args in
     let a = c .before .before .a .given in
-    older-refused (now (x .l)) (x .s) (x .d) (x .t) (x .n) (x .a) (now (x .older)) (now (x .newer)) (now (x .buffer)) (a .0 .0) (a .0 .1 .0) (a .0 .1 .1 .0) (a .1)
-    true (eq-eqb (a .0 .0) 15 (c .if1 .taken))
-
-returns-3 : tie.Need-returns-3
-returns-3 c =
-    let x = c .before .before .before .before .before .before .before .before .args in
-    let a = c .before .before .a .given in
-    older-refused (now (x .l)) (x .s) (x .d) (x .t) (x .n) (x .a) (now (x .older)) (now (x .newer)) (now (x .buffer)) (a .0 .0) (a .0 .1 .0) (a .0 .1 .1 .0) (a .1)
-    false (ne-eqb (a .0 .0) 15 (c .if1 .left))
+    c .refusal-verdict .ensures
+    ∙ older-refused (now (x .l)) (x .s) (x .d) (x .t) (x .n) (x .a) (now (x .older)) (now (x .newer)) (now (x .buffer)) (a .0 .0) (a .0 .1 .0) (a .0 .1 .1 .0) (a .1)
 
 same-length : tie.Need-same-length
 same-length c = search needs
@@ -83,15 +79,15 @@ alike-is c =
     let x = tests .before .before .before .before .before .before .before .before .before .before .before .args in
     older-same (now (x .l)) (x .s) (x .d) (x .t) (x .n) (x .a) (now (x .older)) (now (x .newer)) (now (x .buffer)) (a .0 .0) (a .0 .1 .0) (a .0 .1 .1 .0) (a .0 .1 .1 .1 .0) (a .1)
     (simp (
-      eq-eqb (x .s) (a .0 .0) (tests .before .before .before .if2 .left),
-      not-false (eqb (x .d) (a .0 .1 .0)) (tests .before .before .if3 .left),
-      not-false (eqb (x .t) (a .0 .1 .1 .0)) (tests .before .if4 .left),
-      not-false (eqb (x .n) (a .0 .1 .1 .1 .0)) (tests .if5 .left),
+      eq-eqb (x .s) (a .0 .0) (tests .before .before .before .if1 .left),
+      not-false (eqb (x .d) (a .0 .1 .0)) (tests .before .before .if2 .left),
+      not-false (eqb (x .t) (a .0 .1 .1 .0)) (tests .before .if3 .left),
+      not-false (eqb (x .n) (a .0 .1 .1 .1 .0)) (tests .if4 .left),
     ))
     (c .is-alike .result) (c .is-alike .ensures)
 
-returns-4 : tie.Need-returns-4
-returns-4 c = ap (λ (b : Bool). cond b Alike Broken) (sym (c .if6 .taken)) ∙ alike-is (c .before .before .before .before .before)
+returns-3 : tie.Need-returns-3
+returns-3 c = ap (λ (b : Bool). cond b Alike Broken) (sym (c .if5 .taken)) ∙ alike-is (c .before .before .before .before .before)
 
 same-length-3 : tie.Need-same-length-3
 same-length-3 c = search needs
@@ -99,14 +95,15 @@ same-length-3 c = search needs
 same-length-4 : tie.Need-same-length-4
 same-length-4 c = search needs
 
-returns-5 : tie.Need-returns-5
-returns-5 c = ap (λ (b : Bool). cond b Alike Broken) (sym (c .if6 .left)) ∙ alike-is (c .before .before .before .before .before)
+returns-4 : tie.Need-returns-4
+returns-4 c = ap (λ (b : Bool). cond b Alike Broken) (sym (c .if5 .left)) ∙ alike-is (c .before .before .before .before .before)
 
 pub older-verdict-spec : {M : Type 1} → statement M
 older-verdict-spec =
     tie.close
     (tie.spec
     enum-known-a
+    refusal-verdict-requires
     enum-known-a-2
     returns
     slice-relend-prefix-is-alike
@@ -114,10 +111,9 @@ older-verdict-spec =
     slice-aggregate-is-alike-2
     is-alike-requires
     returns-2
-    returns-3
     same-length
     same-length-2
-    returns-4
+    returns-3
     same-length-3
     same-length-4
-    returns-5)
+    returns-4)

@@ -1,4 +1,4 @@
--- `records::opaque_records` meets its contract. The kind, the type, the length, and the pieces in a part of the sheet.
+-- `records::opaque_records` meets its contract. Its own record, and the pieces in a part of the sheet.
 -- Assumes nothing.
 use denote.Ref.{now}
 use Rattle.octets.proofs.Parts.{part-filled}
@@ -8,17 +8,8 @@ use borrow.Author.Needs.{needs}
 use Rattle.records.proofs.opaque_records.Statement.{statement}
 use Rattle.records.proofs.opaque_records.Tie as tie
 
-put-byte-requires : tie.Need-put-byte-requires
-put-byte-requires c κs = search needs
-
-put-byte-requires-2 : tie.Need-put-byte-requires-2
-put-byte-requires-2 c κs = search needs
-
-cast-put-u32 : tie.Need-cast-put-u32
-cast-put-u32 c = search needs
-
-put-u32-requires : tie.Need-put-u32-requires
-put-u32-requires c κs = search needs
+opaque-record-requires : tie.Need-opaque-record-requires
+opaque-record-requires c κs = search needs
 
 add-piece-records : tie.Need-add-piece-records
 add-piece-records c = search needs
@@ -40,18 +31,15 @@ same-length c = search needs
 
 returns : tie.Need-returns
 returns c =
-    let a = c .before .before .before .before .before .before .before .before .before .before .before .before .before .before .before .before .before .before .args in
-    opaque-laid (a .kind) (now (a .b)) (now (a .o)) (c .before .before .before .before .before .before .before .before .before .before .before .before .before .before .put-byte .ensures) (c .before .before .before .before .before .before .before .before .before .before .put-byte2 .ensures) (c .before .before .before .before .before .before .put-u32 .ensures)
-    (part-filled (c .before .before .before .before .before .before .put-u32 .last .0) (recordBytes (piecesOf (now (a .b)))) 6 (c .before .before .piece-records .ensures))
+    let a = c .before .before .before .before .before .before .before .before .before .before .args in
+    opaque-laid (a .kind) (now (a .b)) (now (a .o)) (c .before .before .before .before .before .before .opaque-record .ensures)
+    (part-filled (c .before .before .before .before .before .before .opaque-record .last .1 .1 .0) (recordBytes (piecesOf (now (a .b)))) 6 (c .before .before .piece-records .ensures))
 
 pub opaque-records-spec : {M : Type 1} → statement M
 opaque-records-spec =
     tie.close
     (tie.spec
-    put-byte-requires
-    put-byte-requires-2
-    cast-put-u32
-    put-u32-requires
+    opaque-record-requires
     add-piece-records
     sub-piece-records
     part-piece-records-start

@@ -1,9 +1,8 @@
--- `records::text_records` meets its contract. The kind, F1 and F2, the length of F3, and the pieces in a part of the sheet.
+-- `records::text_records` meets its contract. Its own record, and the pieces in a part of the sheet.
 -- Assumes nothing.
 use Prim.Native.Nat.{ℕ}
 use mathlib.Core.List.{List}
 use denote.Ref.{now}
-use native.Mathlib.Omega.{arith}
 use Rattle.format.specs.Sheet.{pieceCount, piecesOf, recordBytes}
 use Rattle.records.proofs.Laid.{part-laid}
 use Rattle.records.proofs.Bodies.{text-laid}
@@ -11,20 +10,8 @@ use borrow.Author.Needs.{needs}
 use Rattle.records.proofs.text_records.Statement.{statement}
 use Rattle.records.proofs.text_records.Tie as tie
 
-put-byte-requires : tie.Need-put-byte-requires
-put-byte-requires c κs = search needs
-
-copy20-requires : tie.Need-copy20-requires
-copy20-requires c κs = search needs
-
-sub-put-u32 : tie.Need-sub-put-u32
-sub-put-u32 c = search needs
-
-cast-put-u32 : tie.Need-cast-put-u32
-cast-put-u32 c = search needs
-
-put-u32-requires : tie.Need-put-u32-requires
-put-u32-requires c κs = search needs
+text-record-requires : tie.Need-text-record-requires
+text-record-requires c κs = search needs
 
 sub-piece-records : tie.Need-sub-piece-records
 sub-piece-records c = search needs
@@ -56,19 +43,15 @@ same-length c = search needs
 
 returns : tie.Need-returns
 returns c =
-    let a = c .before .before .before .before .before .before .before .before .before .before .before .before .before .before .before .before .before .before .before .args in
-    text-laid (now (a .b)) (now (a .o)) (omega (arith, c .before .before .before .before .before .before .before .before .before .before .before .before .before .before .before .before .before .before .before .pre)) (c .before .before .before .before .before .before .before .before .before .before .before .before .before .before .before .put-byte .ensures) (c .before .before .before .before .before .before .before .before .before .before .before .copy20 .ensures) (c .before .before .before .before .before .before .before .put-u32 .ensures)
-    (part-laid (λ (t : List ℕ). recordBytes (piecesOf t)) (now (a .b)) (c .before .before .before .before .before .before .before .put-u32 .last .0) 20 25 (c .before .before .piece-records .ensures))
+    let a = c .before .before .before .before .before .before .before .before .before .before .before .args in
+    text-laid (now (a .b)) (now (a .o)) (c .before .before .before .before .before .before .before .text-record .ensures)
+    (part-laid (λ (t : List ℕ). recordBytes (piecesOf t)) (now (a .b)) (c .before .before .before .before .before .before .before .text-record .last .1 .0) 20 25 (c .before .before .piece-records .ensures))
 
 pub text-records-spec : {M : Type 1} → statement M
 text-records-spec =
     tie.close
     (tie.spec
-    put-byte-requires
-    copy20-requires
-    sub-put-u32
-    cast-put-u32
-    put-u32-requires
+    text-record-requires
     sub-piece-records
     part-piece-records-start
     part-piece-records-end

@@ -15,7 +15,7 @@ use Rattle.format.specs.declared.Check.the-variants.{Passed}
 use Rattle.format.specs.Packet.{sizeAt}
 use Rattle.format.specs.Reader.{parse}
 use Rattle.format.proofs.Rows.{segment-passes}
-use Rattle.sheets.proofs.Filling.{leftOver, firstBytes, Step, step, Handed, handed, none-left}
+use Rattle.format.proofs.Filling.{leftOver, firstBytes, Step, step, Handed, handed, none-left}
 use Rattle.sheets.proofs.packet_records.Statement.{statement}
 use Rattle.sheets.proofs.packet_records.Tie as tie
 

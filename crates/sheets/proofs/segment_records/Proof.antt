@@ -5,7 +5,7 @@ use Rattle.format.specs.Sheet.{segmentRecords}
 use Rattle.format.specs.Rows.{bodyRows}
 use Rattle.format.proofs.Bodies.{mission-length, job-length, kept-length, text-length}
 use Rattle.format.proofs.Dwells.{is-dwell}
-use Rattle.sheets.proofs.ByType.{rows-as, room-as, laid-as, room-opaque, laid-opaque}
+use Rattle.format.proofs.ByType.{rows-as, room-as, laid-as, room-opaque, laid-opaque}
 use borrow.Author.Needs.{needs}
 use Rattle.sheets.proofs.segment_records.Statement.{statement}
 use Rattle.sheets.proofs.segment_records.Tie as tie

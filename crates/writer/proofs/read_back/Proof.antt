@@ -1,19 +1,17 @@
--- `writer::read_back` meets its contract. What the reading answers and leaves decides row 19.
+-- `writer::read_back` meets its contract. What the packet's rows answer and what the sheet is decide row 19.
 -- Assumes nothing.
-use Prim.Native.Nat.{ℕ}
 use mathlib.Core.Path.{sym, ap, _∙_}
-use mathlib.Core.List.{List}
 use mathlib.Core.Logic.{⊎-elim}
+use native.Mathlib.Omega.{arith}
 use denote.Ref.{now}
 use lib.ListN.{length}
-use Rattle.format.specs.Reader.{read}
-use Rattle.writer.proofs.ReadingBack.{reread-refused, reread-other, reread-not, reread-same}
+use Rattle.writer.proofs.ReadingBack.{reread-refused, comparable, reread-not, reread-other, reread-same}
 use borrow.Author.Needs.{needs}
 use Rattle.writer.proofs.read_back.Statement.{statement}
 use Rattle.writer.proofs.read_back.Tie as tie
 
-read-requires : tie.Need-read-requires
-read-requires c κs = search needs
+check-requires : tie.Need-check-requires
+check-requires c κs = search needs
 
 enum-told : tie.Need-enum-told
 enum-told c = search needs
@@ -24,60 +22,58 @@ refused-requires c κs = search needs
 enum-known-segments : tie.Need-enum-known-segments
 enum-known-segments c = search needs
 
-same-requires : tie.Need-same-requires
-same-requires c κs = search needs
+is-sheet-requires : tie.Need-is-sheet-requires
+is-sheet-requires c κs =
+    let s = c .before .before .before .before .before .before .before .before .before in
+    let ready = comparable (now (s .args .packet)) (now (s .args .x)) (s .pre .0) _ (c .before .before .before .before .before .check .ensures) _ _ _ _ (c .before .before .before .segments .given .1) (c .before .if1 .taken) in
+    (ready .0, ready .1, ready .2, s .pre .1)
 
 refused-requires-2 : tie.Need-refused-requires-2
 refused-requires-2 c κs = search needs
 
+returns : tie.Need-returns
+returns c =
+    let s = c .before .before .before .before .before .before .before in
+    c .refused .ensures
+    ∙ reread-refused (now (s .args .packet)) (now (s .args .x)) (s .pre .0) _ (c .before .before .before .check .ensures) _ _ _ (c .before .enum-told .given .1)
+
 same-length : tie.Need-same-length
 same-length c = search needs
 
-returns : tie.Need-returns
-returns c =
-    let s = c .before .before .before .before .before .before .before .before .before .before in
-    let packet-is = ap (λ (p : List ℕ). read 3 p (now (s .args .back))) (s .pre .0) in
-    c .refused .ensures
-    ∙ reread-refused (now (s .args .x)) (now (s .args .back)) _ _ (s .pre .1) (c .before .before .before .before .before .read .ensures ∙ packet-is) _ _ _ (c .before .enum-told .given .1)
-
-same-length-2 : tie.Need-same-length-2
-same-length-2 c = search needs
-
 returns-2 : tie.Need-returns-2
 returns-2 c =
-    let s = c .before .before .before .before .before .before .before .before .before .before .before .before .before .before in
-    let packet-is = ap (λ (p : List ℕ). read 3 p (now (s .args .back))) (s .pre .0) in
-    reread-same (now (s .args .x)) (now (s .args .back)) _ _ (s .pre .1) (c .before .before .before .before .before .before .before .before .before .read .ensures ∙ packet-is) _ _ _ _ (c .before .before .before .before .before .segments .given .1) (c .before .before .before .if1 .taken) (sym (c .before .same .ensures) ∙ c .if2 .taken) _ (ap length (s .pre .0))
+    let s = c .before .before .before .before .before .before .before .before .before .before .before .before .before in
+    reread-same (now (s .args .packet)) (now (s .args .x)) (s .pre .0) _ (c .before .before .before .before .before .before .before .before .before .check .ensures) _ _ _ _ (c .before .before .before .before .before .before .before .segments .given .1) (sym (c .before .before .before .is-sheet .ensures) ∙ c .if2 .taken)
 
-same-length-3 : tie.Need-same-length-3
-same-length-3 c = search needs
+same-length-2 : tie.Need-same-length-2
+same-length-2 c =
+    ⊎-elim
+    (λ w. omega (arith, w .2 .kept, ap length (w .6)))
+    (λ w. omega (arith, ap length (w .1)))
+    (c .before .if1 .came)
 
 returns-3 : tie.Need-returns-3
 returns-3 c =
-    let s = c .before .before .before .before .before .before .before .before .before .before .before .before in
-    let x = now (s .args .x) in
-    let back = now (s .args .back) in
-    let packet-is = ap (λ (p : List ℕ). read 3 p back) (s .pre .0) in
+    let s = c .before .before .before .before .before .before .before .before .before in
     let answer = c .before .before .before .segments .given .1 in
     c .refused2 .ensures
     ∙ ⊎-elim
-    (λ w. reread-not x back _ _ (s .pre .1) (c .before .before .before .before .before .before .before .read .ensures ∙ packet-is) _ _ _ _ answer (w .0 .taken) (sym (w .2 .ensures) ∙ w .3 .left))
-    (λ w. reread-other x back _ _ (s .pre .1) (c .before .before .before .before .before .before .before .read .ensures ∙ packet-is) _ _ _ _ answer (w .left))
+    (λ w. reread-not (now (s .args .packet)) (now (s .args .x)) (s .pre .0) _ (c .before .before .before .before .before .check .ensures) _ _ _ _ answer (sym (w .2 .ensures) ∙ w .5 .left))
+    (λ w. reread-other (now (s .args .packet)) (now (s .args .x)) (s .pre .0) _ (c .before .before .before .before .before .check .ensures) _ _ _ _ answer (w .0 .left))
     (c .before .if1 .came)
 
 pub read-back-spec : {M : Type 1} → statement M
 read-back-spec =
     tie.close
     (tie.spec
-    read-requires
+    check-requires
     enum-told
     refused-requires
     enum-known-segments
-    same-requires
+    is-sheet-requires
     refused-requires-2
-    same-length
     returns
-    same-length-2
+    same-length
     returns-2
-    same-length-3
+    same-length-2
     returns-3)

@@ -1,10 +1,8 @@
--- `writer::write_shaped` meets its contract. A packet or a sheet that is too long is row 19, and any other goes through arrays that hold it.
+-- `writer::write_shaped` meets its contract. A packet that is too long is row 19, and any other goes through an array that holds it.
 -- Assumes nothing.
 use native.Mathlib.Omega.{arith}
-use mathlib.Core.Logic.{⊎-elim}
 use denote.Ref.{now}
-use borrow.Author.Tests.{ltb-true}
-use Rattle.writer.proofs.WriterRows.{row-19-packet, row-19-sheet, settled-refused}
+use Rattle.writer.proofs.WriterRows.{row-19-packet, settled-refused}
 use borrow.Author.Needs.{needs}
 use Rattle.writer.proofs.write_shaped.Statement.{statement}
 use Rattle.writer.proofs.write_shaped.Tie as tie
@@ -20,10 +18,7 @@ returns c =
     let s = c .before .before .before .before .before in
     let x = now (s .args .x) in
     settled-refused x (now (s .args .o)) _ 19 0 0 (c .refused .ensures)
-    (⊎-elim
-    (λ w. row-19-packet x (s .pre .0) (s .pre .1) (s .pre .2) (omega (arith, c .before .before .spelt-length .ensures, w .taken)))
-    (λ w. row-19-sheet x (s .pre .0) (s .pre .1) (s .pre .2) (ltb-true 736953 _ (w .1 .taken)))
-    (c .before .if1 .came))
+    (row-19-packet x (s .pre .0) (s .pre .1) (s .pre .2) (omega (arith, c .before .before .spelt-length .ensures, c .before .if1 .taken)))
 
 write-small-requires : tie.Need-write-small-requires
 write-small-requires c κs = search needs

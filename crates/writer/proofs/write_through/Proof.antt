@@ -1,9 +1,9 @@
--- `writer::write_through` meets its contract. What is spelt stands at the front of the one array, and is read back into the front of the other.
+-- `writer::write_through` meets its contract. What is spelt stands at the front of the array, and is read back from there.
 -- Assumes nothing.
 use native.Mathlib.Omega.{arith}
 use mathlib.Core.Path.{_≡_, sym, _∙_}
 use denote.Ref.{now}
-use lib.ListN.{length, take}
+use lib.ListN.{take}
 use lib.Seq.{length-take-le}
 use Rattle.format.specs.Writer.{spell}
 use Rattle.writer.proofs.WriterRows.{row-19-back, front-back, settled-placed}
@@ -11,7 +11,7 @@ use borrow.Author.Needs.{needs}
 use Rattle.writer.proofs.write_through.Statement.{statement}
 use Rattle.writer.proofs.write_through.Tie as tie
 
--- the front of the one array is what x spells
+-- the front of the array is what x spells
 spelt-is : (c : tie.After-slice-known4) → let s = c .before .before .before .before .before .before .before .before in
     take (s .args .n) (c .before .before .spell .last .1 .0) ≡ spell (now (s .args .x))
 spelt-is c =
@@ -29,18 +29,8 @@ slice-aggregate-packet c =
     let s = c .before .before .before .before .before .before .before .before .before in
     sym (length-take-le (s .args .n) (c .before .before .before .spell .last .1 .0) (omega (arith, c .before .before .before .spell .kept, s .pre)))
 
-slice-relend-prefix-read-back : tie.Need-slice-relend-prefix-read-back
-slice-relend-prefix-read-back c = search needs
-
-slice-aggregate-read-back : tie.Need-slice-aggregate-read-back
-slice-aggregate-read-back c =
-    let s = c .before .before .before .before .before .before .before .before .before .before in
-    sym (length-take-le (length (now (s .args .x))) (now (s .args .back)) (s .pre .4))
-
 read-back-requires : tie.Need-read-back-requires
-read-back-requires c κs =
-    let s = c .before .before .before .before .before .before .before .before .before .before in
-    (spelt-is (c .before .before), length-take-le (length (now (s .args .x))) (now (s .args .back)) (s .pre .4))
+read-back-requires c κs = (spelt-is (c .before .before), c .before .before .before .before .before .before .before .before .before .before .pre .4)
 
 place-requires : tie.Need-place-requires
 place-requires c κs = search needs
@@ -68,8 +58,6 @@ write-through-spec =
     spell-requires
     slice-reshare-prefix-packet
     slice-aggregate-packet
-    slice-relend-prefix-read-back
-    slice-aggregate-read-back
     read-back-requires
     place-requires
     same-length

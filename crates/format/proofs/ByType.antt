@@ -32,7 +32,8 @@ module _ (r : Reading) (b : List ℕ) (kind : ℕ) where
 
   -- a type that is none of those that are read field by field
   module _ (h1 : kind ≡ 1 → ⊥) (h2 : kind ≡ 2 → ⊥) (h5 : kind ≡ 5 → ⊥) (h6 : kind ≡ 6 → ⊥) (h10 : kind ≡ 10 → ⊥) (h13 : kind ≡ 13 → ⊥) where
-    opaque-are : bytesAs kind ≡ recordBytes (opaqueRecords kind b)
+    -- its records are those of an opaque one
+    pub opaque-are : bytesAs kind ≡ recordBytes (opaqueRecords kind b)
     unfolding segmentRecords
     opaque-are = rw (ne-eqb kind 1 h1, ne-eqb kind 2 h2, ne-eqb kind 5 h5, ne-eqb kind 6 h6, ne-eqb kind 10 h10, ne-eqb kind 13 h13)
 

@@ -1,4 +1,4 @@
--- The walk that fills the sheet: one segment's records, laid out behind those before it.
+-- The walk over the segments' records, to lay them out or to compare them: one segment's, behind those before it.
 -- Assumes nothing.
 use Prim.Native.Nat.{ℕ, _+_, _-_, _≤_, _<_}
 use native.Mathlib.Omega.{arith}
@@ -6,18 +6,18 @@ use mathlib.Core.Path.{_≡_, sym, ap, ap₂, _∙_}
 use mathlib.Core.List.{List, [], _∷_, _++_}
 use lib.ListN.{length, getD, take, drop, length-drop}
 use lib.Seq.{drop-drop}
 use Rattle.format.specs.declared.Reading.{Reading}
 use Rattle.format.specs.declared.Check.the-variants.{Passed}
 use Rattle.format.specs.Packet.{typeAt, sizeAt, bodyAt}
 use Rattle.format.specs.Sheet.{segmentRecords, packetRecords, recordBytes}
 use Rattle.format.specs.Rows.{firstRow, bodyRows, segmentRows}
 use Rattle.format.specs.Reader.{Parsed, parse}
 use Rattle.format.proofs.Rows.{segment-passes}
 use Rattle.format.proofs.Segments.{length-body, body-part}
 use Rattle.format.proofs.Lengths.{bytes-append}
 use Rattle.format.proofs.Turns.{segmentAt, behind, parse-good, parse-passes, parse-end}
 
--- the bytes of the records that are left to lay out
+-- the bytes of the records that are left
 abbrev pub leftOver : Reading → ℕ → List ℕ → List ℕ
 leftOver r k l = recordBytes (packetRecords r (parse r k l .segments))
 

@@ -1,10 +1,10 @@
--- `writer::still_equal` meets its contract. The two ways of the test.
+-- `comparing::still_equal` meets its contract. The two ways of the test.
 -- Assumes nothing.
 use mathlib.Core.Path.{sym, ap, _∙_}
 use mathlib.Core.Bool.{Bool, _&&_, and-true, and-false}
 use borrow.Author.Tests.{eq-eqb, ne-eqb}
-use Rattle.writer.proofs.still_equal.Statement.{statement}
-use Rattle.writer.proofs.still_equal.Tie as tie
+use Rattle.comparing.proofs.still_equal.Statement.{statement}
+use Rattle.comparing.proofs.still_equal.Tie as tie
 
 returns : tie.Need-returns
 returns c = let a = c .before .args in sym (ap (λ (t : Bool). a .equal && t) (eq-eqb (a .x) (a .y) (c .if1 .taken)) ∙ and-true (a .equal))

@@ -1,4 +1,4 @@
--- `writer::same` meets its contract: whether the bytes passed so far are equal.
+-- `comparing::same` meets its contract: whether the bytes passed so far are equal.
 -- Assumes nothing.
 use Prim.Native.Nat.{_-_, _≤_}
 use native.Mathlib.Omega.{arith}
@@ -13,8 +13,8 @@ use lib.Seq.{take-all}
 use Rattle.format.specs.Writer.{isSame}
 use Rattle.format.proofs.Sameness.{same-not, same-more}
 use borrow.Author.Needs.{needs}
-use Rattle.writer.proofs.same.Statement.{statement}
-use Rattle.writer.proofs.same.Tie as tie
+use Rattle.comparing.proofs.same.Statement.{statement}
+use Rattle.comparing.proofs.same.Tie as tie
 
 abbrev Inv-loop : tie.InvT-loop
 Inv-loop a b equal₀ i₀ i-end equal i = (i-end ≡ length a) × (length a ≡ length b) × (i ≤ length a) × (equal ≡ isSame (take i a) (take i b))

@@ -1,0 +1,4 @@
+pub mod Fronts
+pub mod Batches
+pub mod Rests
+pub mod Types
