@@ -15,7 +15,8 @@ use Rattle.format.specs.Writer.{listed, isHeaded, Due, calledFor, isFollower, i
 abbrev pub Shaped : List ℕ → Type 0
 Shaped x = (listed x .whole ≡ true) × (isHeaded (listed x .records) ≡ true) × (isComplete (record { targets = 0; bytes = 0 }) (listed x .records) ≡ true)
 
--- what is due behind a record, where so much was due before it: "followed directly by exactly the kind 4 or 6 records, with the counts, that it calls for": the cases of `isComplete`
+-- what is due behind a record, where so much was due before it, by the cases of `isComplete`: "followed directly by exactly the kind 4
+-- or 6 records, with the counts, that it calls for"
 unfoldable pub dueAfter : Due → Record → Next
 dueAfter due r =
     cond (ltb 0 (due .targets))

@@ -16,8 +16,8 @@ use Rattle.format.proofs.Rows.{both}
 use Rattle.format.proofs.Records.{AllFormed}
 use Rattle.format.proofs.Listing.{listed-formed, before, listed-more, whole-kind, whole-fits}
 use Rattle.shape.specs.Shape.{Shaped}
-use Rattle.spelling.specs.Spelling.{speltAll, sizes}
-use Rattle.spelling.proofs.Regrouped.{front-length, regrouped-spelt, spelt-length}
+use Rattle.spelling.specs.Spelling.{speltAll}
+use Rattle.spelling.proofs.Regrouped.{sizes, front-length, regrouped-spelt, spelt-length}
 
 -- nothing is due
 abbrev pub none : Due

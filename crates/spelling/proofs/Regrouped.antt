@@ -17,7 +17,7 @@ use Rattle.format.specs.Sheet.{Record}
 use Rattle.format.specs.Writer.{Due, calledFor, isFollower, isComplete, typeOf, given, maskAfter, Regrouped, regroup, segmentsBytes}
 use Rattle.format.proofs.Records.{AllFormed}
 use Rattle.format.proofs.Rows.{neither, both}
-use Rattle.spelling.specs.Spelling.{sizeOf, spelt, maskBehind, speltAll, sizes}
+use Rattle.spelling.specs.Spelling.{sizeOf, spelt, maskBehind, speltAll}
 use Rattle.spelling.proofs.Given.{target-given, piece-given, given-any}
 
 -- ---- complete records, one at a time
@@ -162,6 +162,11 @@ segment-joined : (type size : ℕ) (g x y : List ℕ) → 5 + length (g ++ x) �
     → segmentBytes (record { type = type; body = g ++ x }) ++ y ≡ type ∷ (bytes 4 size ++ g) ++ (x ++ y)
 unfolding segmentBytes
 segment-joined type size g x y e = ap (λ (n : ℕ). type ∷ (bytes 4 n ++ (g ++ x)) ++ y) e ∙ ap (λ (z : List ℕ). type ∷ z) (split-anew (bytes 4 size) g x y)
+
+-- the sum of the sizes of the segments that records begin
+unfoldable pub sizes : List Record → ℕ
+sizes [] = 0
+sizes (r ∷ rs) = cond (isFollower r) 0 (sizeOf r) + sizes rs
 
 -- the sizes of segments, one record at a time
 module _ (r : Record) where

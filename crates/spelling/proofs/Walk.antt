@@ -15,9 +15,9 @@ use Rattle.format.specs.Writer.{Listed, listed, Due, isFollower, calledFor, isC
 use Rattle.format.proofs.Records.{AllFormed}
 use Rattle.format.proofs.Rows.{neither}
 use Rattle.format.proofs.Listing.{listed-formed, listed-more, listed-end, whole-kind, whole-fits, whole-rest}
-use Rattle.spelling.specs.Spelling.{sizeOf, spelt, maskBehind, speltAll, sizes}
+use Rattle.spelling.specs.Spelling.{sizeOf, spelt, maskBehind, speltAll}
 use Rattle.spelling.proofs.Given.{given-any}
-use Rattle.spelling.proofs.Regrouped.{First, target, piece, begins, first, Single, single-called, is-piece, follower-behind, begins-spelt, spelt-length}
+use Rattle.spelling.proofs.Regrouped.{sizes, First, target, piece, begins, first, Single, single-called, is-piece, follower-behind, begins-spelt, spelt-length}
 
 -- ---- the record at a place
 

@@ -26,8 +26,3 @@ maskBehind mask r = cond (isFollower r) mask (maskAfter r)
 unfoldable pub speltAll : ℕ → List Record → List ℕ
 speltAll mask [] = []
 speltAll mask (r ∷ rs) = spelt mask r ++ speltAll (maskBehind mask r) rs
-
--- the sum of the sizes of the segments that records begin
-unfoldable pub sizes : List Record → ℕ
-sizes [] = 0
-sizes (r ∷ rs) = cond (isFollower r) 0 (sizeOf r) + sizes rs

@@ -10,7 +10,7 @@ use lib.Dec.{lit≤}
 use lib.ListN.{length, drop}
 use borrow.Author.Needs.{needs}
 use Rattle.format.specs.Writer.{listed, spell}
-use Rattle.spelling.specs.Spelling.{sizes}
+use Rattle.spelling.proofs.Regrouped.{sizes}
 use Rattle.spelling.proofs.Behind.{behind}
 use Rattle.spelling.proofs.Walk.{Cut, cut, sizes-next, sizes-end}
 use Rattle.spelling.proofs.spelt_length.Statement.{statement}
