@@ -112,8 +112,8 @@ pieces-batch n k b e = go (leb (n * 32) (length b)) refl
         let l : length b ≤ k = omega arith in
         sym (ap₂ (λ (y z : List ℕ). piecesOf y ++ piecesOf z) (take-all k b l) (drop-of-length-le b l) ∙ ap (λ (rs : List Record). piecesOf b ++ rs) no-pieces ∙ append-nil (piecesOf b))
 
--- at most 30 pieces, of the k bytes behind those that stand before `at`, on x behind its first q bytes
-module _ (b x : List ℕ) (at k q : ℕ) (size : k ≡ min 960 (length b - at)) (within : at ≤ length b) (whole : q + pieceCount (length b - at) * 34 ≡ length x) where
+-- at most 15 pieces, of the k bytes behind those that stand before `at`, on x behind its first q bytes
+module _ (b x : List ℕ) (at k q : ℕ) (size : k ≡ min 480 (length b - at)) (within : at ≤ length b) (whole : q + pieceCount (length b - at) * 34 ≡ length x) where
   -- the pieces behind them
   pub pieces-left : q + (k + 31) / 32 * 34 + pieceCount (length b - (at + k)) * 34 ≡ length x
   unfolding pieceCount
@@ -125,7 +125,7 @@ module _ (b x : List ℕ) (at k q : ℕ) (size : k ≡ min 960 (length b - at)) 
   batch-length = ap (λ (n : ℕ). pieceCount n * 34) (length-part b at k (omega arith))
 
   -- the batch in the window, compared with its part of x
-  module _ (w₀ w : List ℕ) {r : Bool} (room : 1024 ≤ length w₀)
+  module _ (w₀ w : List ℕ) {r : Bool} (room : 512 ≤ length w₀)
       (filled : w ≡ sets w₀ 0 (recordBytes (piecesOf (take (at + k - at) (drop at b)))))
       (told : r ≡ isSame (take (length (take (q + (k + 31) / 32 * 34 - q) (drop q x))) w) (take (q + (k + 31) / 32 * 34 - q) (drop q x))) where
     abbrev batch-pieces : List ℕ
@@ -136,7 +136,7 @@ module _ (b x : List ℕ) (at k q : ℕ) (size : k ≡ min 960 (length b - at)) 
 
     pieces-both : recordBytes (piecesOf (drop at b)) ≡ batch-pieces ++ later-pieces
     pieces-both =
-        ap recordBytes (pieces-batch 30 k (drop at b) (size ∙ sym (ap (min 960) (length-drop at b))))
+        ap recordBytes (pieces-batch 15 k (drop at b) (size ∙ sym (ap (min 480) (length-drop at b))))
         ∙ bytes-append (piecesOf (take k (drop at b))) (piecesOf (drop k (drop at b)))
         ∙ ap₂ (λ (y z : List ℕ). recordBytes (piecesOf y) ++ recordBytes (piecesOf z)) (sym (part-is b at k)) (drop-drop k at b)
 

@@ -1,7 +1,7 @@
 // Whether a sheet is the one that a packet reads to. The records are laid out a few at a time in a small window, and compared there: no
 // array as long as the sheet is needed, nor its clearing.
 ghost use mathlib.Core.Path.{_≡_};
-ghost use mathlib.Core.Bool.{_&&_};
+ghost use mathlib.Core.Bool.{cond};
 ghost use Prim.Native.Nat.{_+_, _*_, _≤_, _^_, min};
 ghost use lib.Dec.{eqb};
 ghost use lib.IntN.{natAbs};
@@ -14,25 +14,25 @@ ghost use Rattle.format.specs.Rows.{firstRow, headerRows, targetsRows, dwellRow
 ghost use Rattle.format.specs.Reader.{parse, parsed, sheet};
 ghost use Rattle.format.specs.Writer.{isSame};
 
-// Whether what was equal so far is equal with one byte more.
-fn still_equal(equal: bool, x: u8, y: u8) -> bool
-    ensures { λ r. ⌜ r ≡ (equal && eqb x y) ⌝ }
+// 0 where two bytes are equal, else 1.
+fn differs(x: u8, y: u8) -> u8
+    ensures { λ r. ⌜ r ≡ cond (eqb x y) 0 1 ⌝ }
 {
-    if x == y { equal } else { false }
+    if x == y { 0 } else { 1 }
 }
 
-// Whether two runs of bytes are equal. The loop goes on where they differ: without a way out it takes many bytes in a step.
+// Whether two runs of bytes are equal. The loop goes on where they differ, and gathers in a byte: so it takes many bytes in a step.
 pub fn same(a: &[u8], b: &[u8]) -> bool
     ensures { λ r. ⌜ r ≡ isSame (now (a .entry)) (now (b .entry)) ⌝ }
 {
     if a.len() != b.len() {
         return false;
     }
-    let mut equal = true;
+    let mut seen: u8 = 0;
     for i in 0..a.len() {
-        equal = still_equal(equal, a[i], b[i]);
+        seen = seen | differs(a[i], b[i]);
     }
-    equal
+    seen == 0
 }
 
 // Whether x is what stands at the front of the window.
@@ -50,7 +50,7 @@ fn least(a: usize, b: usize) -> usize
     if a < b { a } else { b }
 }
 
-// So many targets from t on, to which no row applies: 22 of them, 990 bytes, fit into the window.
+// So many targets from t on, to which no row applies: 11 of them, 495 bytes, fit into the window.
 fn same_targets(
     t: &[u8],
     mask: u64,
@@ -59,13 +59,13 @@ fn same_targets(
     x: &[u8],
     window: &mut [u8],
 ) -> bool
-    requires { ⌜ (count * announcedLength mask 32 targetWidths ≤ length (now t)) × (count * 45 ≡ length (now x)) × (natAbs (area .d10 .0) ≤ 2 ^ 31) × (natAbs (area .d24 .0) ≤ 2 ^ 31) × (firstRow (targetsRows mask area count (now t)) ≡ Passed) × (1024 ≤ length (now window)) ⌝ }
+    requires { ⌜ (count * announcedLength mask 32 targetWidths ≤ length (now t)) × (count * 45 ≡ length (now x)) × (natAbs (area .d10 .0) ≤ 2 ^ 31) × (natAbs (area .d24 .0) ≤ 2 ^ 31) × (firstRow (targetsRows mask area count (now t)) ≡ Passed) × (512 ≤ length (now window)) ⌝ }
     ensures { λ r. ⌜ r ≡ isSame (recordBytes (targetRecords mask area count (now (t .entry)))) (now (x .entry)) ⌝ }
 {
     let each = mask::target_length(mask);
     let mut done = 0;
     while done < count {
-        let k = least(22, count - done);
+        let k = least(11, count - done);
         let p = done * each;
         let q = done * (1 + format::TargetRecord::LEN);
         let to = q + k * (1 + format::TargetRecord::LEN);
@@ -80,7 +80,7 @@ fn same_targets(
 
 // A dwell to whose body b no row applies, and its targets.
 fn same_dwell(r: format::Reading, b: &[u8], x: &[u8], window: &mut [u8]) -> bool
-    requires { ⌜ (firstRow (dwellRows r (now b)) ≡ Passed) × (88 + targetCount (now b) * 45 ≡ length (now x)) × (1024 ≤ length (now window)) ⌝ }
+    requires { ⌜ (firstRow (dwellRows r (now b)) ≡ Passed) × (88 + targetCount (now b) * 45 ≡ length (now x)) × (512 ≤ length (now window)) ⌝ }
     ensures { λ same. ⌜ same ≡ isSame (recordBytes (dwellRecords r (now (b .entry)))) (now (x .entry)) ⌝ }
 {
     let mask = octets::get_u64(b, 0);
@@ -95,15 +95,15 @@ fn same_dwell(r: format::Reading, b: &[u8], x: &[u8], window: &mut [u8]) -> bool
     same_targets(&b[from..], mask, area, count, &x[head..], window)
 }
 
-// The pieces that carry b: 30 of them, 1,020 bytes, fit into the window.
+// The pieces that carry b: 15 of them, 510 bytes, fit into the window.
 fn same_pieces(b: &[u8], x: &[u8], window: &mut [u8]) -> bool
-    requires { ⌜ (pieceCount (length (now b)) * 34 ≡ length (now x)) × (1024 ≤ length (now window)) ⌝ }
+    requires { ⌜ (pieceCount (length (now b)) * 34 ≡ length (now x)) × (512 ≤ length (now window)) ⌝ }
     ensures { λ r. ⌜ r ≡ isSame (recordBytes (piecesOf (now (b .entry)))) (now (x .entry)) ⌝ }
 {
     let mut at = 0;
     let mut q = 0;
     while at < b.len() {
-        let k = least(960, b.len() - at);
+        let k = least(480, b.len() - at);
         let end = at + k;
         let to = q + (k + 31) / 32 * (1 + format::PieceRecord::LEN);
         records::piece_records(&b[at..end], window);
@@ -118,7 +118,7 @@ fn same_pieces(b: &[u8], x: &[u8], window: &mut [u8]) -> bool
 
 // The records of a segment to whose body b no row applies, by its type.
 fn same_segment(r: format::Reading, kind: u8, b: &[u8], x: &[u8], window: &mut [u8]) -> bool
-    requires { ⌜ (firstRow (bodyRows r kind (now b)) ≡ Passed) × (length (now b) ≤ 65536) × (length (recordBytes (segmentRecords r (record { type = kind; body = now b }))) ≡ length (now x)) × (1024 ≤ length (now window)) ⌝ }
+    requires { ⌜ (firstRow (bodyRows r kind (now b)) ≡ Passed) × (length (now b) ≤ 65536) × (length (recordBytes (segmentRecords r (record { type = kind; body = now b }))) ≡ length (now x)) × (512 ≤ length (now window)) ⌝ }
     ensures { λ same. ⌜ same ≡ isSame (recordBytes (segmentRecords r (record { type = kind; body = now (b .entry) }))) (now (x .entry)) ⌝ }
 {
     match kind {
@@ -145,7 +145,7 @@ fn same_segment(r: format::Reading, kind: u8, b: &[u8], x: &[u8], window: &mut [
 }
 
 fn same_text(b: &[u8], x: &[u8], window: &mut [u8]) -> bool
-    requires { ⌜ (20 ≤ length (now b)) × (length (now b) ≤ 65536) × (length (recordBytes (textRecords (now b))) ≡ length (now x)) × (1024 ≤ length (now window)) ⌝ }
+    requires { ⌜ (20 ≤ length (now b)) × (length (now b) ≤ 65536) × (length (recordBytes (textRecords (now b))) ≡ length (now x)) × (512 ≤ length (now window)) ⌝ }
     ensures { λ r. ⌜ r ≡ isSame (recordBytes (textRecords (now (b .entry)))) (now (x .entry)) ⌝ }
 {
     let head = 1 + format::TextRecord::LEN;
@@ -157,7 +157,7 @@ fn same_text(b: &[u8], x: &[u8], window: &mut [u8]) -> bool
 }
 
 fn same_opaque(kind: u8, b: &[u8], x: &[u8], window: &mut [u8]) -> bool
-    requires { ⌜ (length (now b) ≤ 65536) × (length (recordBytes (opaqueRecords kind (now b))) ≡ length (now x)) × (1024 ≤ length (now window)) ⌝ }
+    requires { ⌜ (length (now b) ≤ 65536) × (length (recordBytes (opaqueRecords kind (now b))) ≡ length (now x)) × (512 ≤ length (now window)) ⌝ }
     ensures { λ r. ⌜ r ≡ isSame (recordBytes (opaqueRecords kind (now (b .entry)))) (now (x .entry)) ⌝ }
 {
     let head = 1 + format::OpaqueRecord::LEN;
@@ -170,7 +170,7 @@ fn same_opaque(kind: u8, b: &[u8], x: &[u8], window: &mut [u8]) -> bool
 
 // The records of all segments of l, the packet behind its header, to which no row applies.
 fn same_records(r: format::Reading, l: &[u8], x: &[u8], window: &mut [u8]) -> bool
-    requires { ⌜ (length (now l) ≤ 65536) × (parse r (length (now l)) (now l) .ending ≡ Passed) × (length (recordBytes (packetRecords r (parse r (length (now l)) (now l) .segments))) ≡ length (now x)) × (1024 ≤ length (now window)) ⌝ }
+    requires { ⌜ (length (now l) ≤ 65536) × (parse r (length (now l)) (now l) .ending ≡ Passed) × (length (recordBytes (packetRecords r (parse r (length (now l)) (now l) .segments))) ≡ length (now x)) × (512 ≤ length (now window)) ⌝ }
     ensures { λ same. ⌜ same ≡ isSame (recordBytes (packetRecords r (parse r (length (now (l .entry))) (now (l .entry)) .segments))) (now (x .entry)) ⌝ }
 {
     let mut at = 0;
@@ -192,7 +192,7 @@ fn same_records(r: format::Reading, l: &[u8], x: &[u8], window: &mut [u8]) -> bo
 
 // Whether x is the sheet of a packet to which no row of this edition's reading applies.
 pub fn is_sheet(edition: u32, packet: &[u8], x: &[u8], window: &mut [u8]) -> bool
-    requires { ⌜ (firstRow (headerRows edition (now packet)) ≡ Passed) × (parsed edition (now packet) .ending ≡ Passed) × (length (sheet edition (now packet)) ≡ length (now x)) × (1024 ≤ length (now window)) ⌝ }
+    requires { ⌜ (firstRow (headerRows edition (now packet)) ≡ Passed) × (parsed edition (now packet) .ending ≡ Passed) × (length (sheet edition (now packet)) ≡ length (now x)) × (512 ≤ length (now window)) ⌝ }
     ensures { λ r. ⌜ r ≡ isSame (sheet edition (now (packet .entry))) (now (x .entry)) ⌝ }
 {
     let first = packet[0];

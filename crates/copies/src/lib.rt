@@ -78,6 +78,14 @@ pub fn copy20(s: &[u8], p: usize, o: &mut [u8], q: usize)
     copy4(s, p + 16, o, q + 16);
 }
 
+pub fn copy21(s: &[u8], p: usize, o: &mut [u8], q: usize)
+    requires { ⌜ (p + 21 ≤ length (now s)) × (q + 21 ≤ length (now o)) ⌝ }
+    ensures { λ _. ⌜ now (o .exit) ≡ sets (now (o .entry)) q (take 21 (drop p (now (s .entry)))) ⌝ }
+{
+    copy20(s, p, o, q);
+    copy1(s, p + 20, o, q + 20);
+}
+
 pub fn copy32(s: &[u8], p: usize, o: &mut [u8], q: usize)
     requires { ⌜ (p + 32 ≤ length (now s)) × (q + 32 ≤ length (now o)) ⌝ }
     ensures { λ _. ⌜ now (o .exit) ≡ sets (now (o .entry)) q (take 32 (drop p (now (s .entry)))) ⌝ }

@@ -14,3 +14,4 @@ pub mod Places
 pub mod OlderRecords
 pub mod Editions
 pub mod Filled
+pub mod Numbers

@@ -37,16 +37,17 @@ pub fn dwell_record(r: format::Reading, b: &[u8], mask: u64, o: &mut [u8])
     records::put_byte(o, 87, editions::mark_of(r));
 }
 
-// The target at the front of t.
+// The target at the front of t. Latitude and longitude are each stored as soon as they are worked out: the compiler stores the
+// four bytes of one number in one step, but those of two numbers in a row byte by byte.
 fn target_record(t: &[u8], mask: u64, area: format::Area, o: &mut [u8])
     requires { ⌜ (announcedLength mask 32 targetWidths ≤ length (now t)) × (45 ≤ length (now o)) × (natAbs (area .d10 .0) ≤ 2 ^ 31) × (natAbs (area .d24 .0) ≤ 2 ^ 31) × (isLatitude (latitude mask area (targetFields mask (now t))) ≡ true) ⌝ }
     ensures { λ _. ⌜ now (o .exit) ≡ sets (now (o .entry)) 0 (recordBytes (targetRecord mask area (now (t .entry)) ∷ [])) ⌝ }
 {
-    let latitude = position::latitude_micro(values::latitude_of(t, mask, area));
-    let longitude = position::longitude_micro(values::longitude_of(t, mask, area));
     records::put_byte(o, 0, format::TargetRecord::KIND);
     targets::target_fields(t, 0, mask, o, 1);
+    let latitude = position::latitude_micro(values::latitude_of(t, mask, area));
     octets::put_i32(o, 37, latitude);
+    let longitude = position::longitude_micro(values::longitude_of(t, mask, area));
     octets::put_u32(o, 41, longitude);
 }
 

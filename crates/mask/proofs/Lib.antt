@@ -5,7 +5,7 @@ pub mod Sets
 pub mod Words
 pub mod Sentence
 pub mod New
-pub mod Sum
+pub mod Fours
 pub mod FullWidth
 pub mod Places
 pub mod Trials

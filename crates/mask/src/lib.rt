@@ -2,8 +2,9 @@
 // decided by shifts and masks over a u64, and the field at fault by leading zeros.
 ghost use mathlib.Core.Path.{_≡_};
 ghost use mathlib.Core.Bool.{not, _&&_};
-ghost use Prim.Native.Nat.{ℕ, _+_, _≤_, _<_};
-ghost use lib.ListN.{length};
+ghost use mathlib.Core.List.{[], _∷_};
+ghost use Prim.Native.Nat.{ℕ, _-_, _/_, _%_, _^_, _≤_, _<_};
+ghost use lib.ListN.{getD};
 ghost use lib.Bits.{bitAnd};
 ghost use lib.Dec.{eqb};
 ghost use Rattle.mask.specs.Fields.{announced, announcedLength, dwellWidths, targetWidths, dwellSize};
@@ -130,54 +131,40 @@ pub fn is_placed(mask: u64) -> bool
     has(mask, 33) && has(mask, 34) || has(mask, 35) && has(mask, 36)
 }
 
-// The widths of D2 to D31, and of D32.1 to D32.18.
-const DWELL_WIDTHS: [u8; 30] = [
-    2,
-    2,
-    1,
-    2,
-    4,
-    4,
-    4,
-    4,
-    4,
-    4,
-    4,
-    4,
-    2,
-    2,
-    4,
-    1,
-    1,
-    2,
-    2,
-    2,
-    2,
-    2,
-    4,
-    4,
-    2,
-    2,
-    2,
-    2,
-    2,
-    1,
-];
+// The bytes of four fields, for each of the 16 ways to announce them. The first field is the highest bit of the index. Where two fields are
+// left, the tables count the two behind them as 0.
+const D2_TO_5: [u8; 16] = [0, 2, 1, 3, 2, 4, 3, 5, 2, 4, 3, 5, 4, 6, 5, 7];
 
-const TARGET_WIDTHS: [u8; 18] = [2, 4, 4, 2, 2, 2, 2, 2, 1, 1, 1, 2, 2, 1, 2, 1, 4, 1];
+// D10 to D13 have the same widths.
+const D6_TO_9: [u8; 16] = [0, 4, 4, 8, 4, 8, 8, 12, 4, 8, 8, 12, 8, 12, 12, 16];
 
-// The bytes of the announced fields, of a table of widths that begins with the field first.
-fn announced_length(mask: u64, first: usize, widths: &[u8]) -> usize
-    requires { ⌜ (2 ≤ first) × (first + length (now widths) ≤ 66) ⌝ }
-    ensures { λ r. ⌜ r ≡ announcedLength mask first (now (widths .entry)) ⌝ }
+const D14_TO_17: [u8; 16] = [0, 1, 4, 5, 2, 3, 6, 7, 2, 3, 6, 7, 4, 5, 8, 9];
+
+const D18_TO_21: [u8; 16] = [0, 2, 2, 4, 2, 4, 4, 6, 1, 3, 3, 5, 3, 5, 5, 7];
+
+const D22_AND_23: [u8; 16] = [0, 0, 0, 0, 2, 2, 2, 2, 2, 2, 2, 2, 4, 4, 4, 4];
+
+const D24_TO_27: [u8; 16] = [0, 2, 2, 4, 4, 6, 6, 8, 4, 6, 6, 8, 8, 10, 10, 12];
+
+const D28_TO_31: [u8; 16] = [0, 1, 2, 3, 2, 3, 4, 5, 2, 3, 4, 5, 4, 5, 6, 7];
+
+const D32_1_TO_4: [u8; 16] = [0, 2, 4, 6, 4, 6, 8, 10, 2, 4, 6, 8, 6, 8, 10, 12];
+
+const D32_5_TO_8: [u8; 16] = [0, 2, 2, 4, 2, 4, 4, 6, 2, 4, 4, 6, 4, 6, 6, 8];
+
+const D32_9_TO_12: [u8; 16] = [0, 2, 1, 3, 1, 3, 2, 4, 1, 3, 2, 4, 2, 4, 3, 5];
+
+const D32_13_TO_16: [u8; 16] = [0, 1, 2, 3, 1, 2, 3, 4, 2, 3, 4, 5, 3, 4, 5, 6];
+
+const D32_17_AND_18: [u8; 16] = [0, 0, 0, 0, 1, 1, 1, 1, 4, 4, 4, 4, 5, 5, 5, 5];
+
+// The bytes that the four fields from n on take, by their table: one look in place of four tests.
+fn four(mask: u64, n: usize, lengths: &[u8; 16]) -> usize
+    requires { ⌜ (2 ≤ n) × (n ≤ 62) ⌝ }
+    ensures { λ r. ⌜ (r ≡ getD (now (lengths .entry)) (mask / 2 ^ (62 - n) % 16) 0) × (r < 256) ⌝ }
 {
-    let mut sum: usize = 0;
-    for i in 0..widths.len() {
-        if has(mask, i + first) {
-            sum += wide(widths[i]);
-        }
-    }
-    sum
+    let i = ((mask >> (62 - n)) & 15) as usize;
+    wide(lengths[i])
 }
 
 fn wide(x: u8) -> usize
@@ -186,18 +173,34 @@ fn wide(x: u8) -> usize
     x as usize
 }
 
+// The bytes of the announced fields of a dwell in front of D24: where D24 stands behind the mask.
+pub fn length_before_d24(mask: u64) -> usize
+    ensures { λ r. ⌜ (r ≡ announcedLength mask 2 (2 ∷ 2 ∷ 1 ∷ 2 ∷ 4 ∷ 4 ∷ 4 ∷ 4 ∷ 4 ∷ 4 ∷ 4 ∷ 4 ∷ 2 ∷ 2 ∷ 4 ∷ 1 ∷ 1 ∷ 2 ∷ 2 ∷ 2 ∷ 2 ∷ 2 ∷ [])) × (r ≤ 59) ⌝ }
+{
+    four(mask, 2, &D2_TO_5)
+        + four(mask, 6, &D6_TO_9)
+        + four(mask, 10, &D6_TO_9)
+        + four(mask, 14, &D14_TO_17)
+        + four(mask, 18, &D18_TO_21)
+        + four(mask, 22, &D22_AND_23)
+}
+
 // The bytes of the announced fields of a dwell before its targets.
 pub fn dwell_length(mask: u64) -> usize
     ensures { λ r. ⌜ r ≡ announcedLength mask 2 dwellWidths ⌝ }
 {
-    announced_length(mask, 2, &DWELL_WIDTHS)
+    length_before_d24(mask) + four(mask, 24, &D24_TO_27) + four(mask, 28, &D28_TO_31)
 }
 
 // The bytes of the announced fields of one target.
 pub fn target_length(mask: u64) -> usize
     ensures { λ r. ⌜ r ≡ announcedLength mask 32 targetWidths ⌝ }
 {
-    announced_length(mask, 32, &TARGET_WIDTHS)
+    four(mask, 32, &D32_1_TO_4)
+        + four(mask, 36, &D32_5_TO_8)
+        + four(mask, 40, &D32_9_TO_12)
+        + four(mask, 44, &D32_13_TO_16)
+        + four(mask, 48, &D32_17_AND_18)
 }
 
 // The size S2 of a dwell segment with so many targets.

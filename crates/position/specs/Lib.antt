@@ -1,3 +1,4 @@
 pub mod Position
 pub mod Half
+pub mod Always
 pub mod Trials

@@ -5,6 +5,7 @@ ghost use Prim.Native.Nat.{_≤_, _^_};
 ghost use lib.IntN.{natAbs};
 ghost use Rattle.position.specs.Position.{latitudeSum, isLatitude, latitudeMicro, longitudeSum, longitudeMicro};
 ghost use Rattle.position.specs.Half.{halfAway};
+ghost use Rattle.position.specs.Always.{isAlwaysLatitude};
 
 // Latitude steps, form SA32: each is 180/2^32 degrees. A sum of them may leave the 32 bits, so they are held in 64.
 pub struct Sa32(pub i64);
@@ -32,6 +33,22 @@ pub fn is_latitude(x: Sa32) -> bool
     ensures { λ r. ⌜ r ≡ isLatitude (x .0) ⌝ }
 {
     -2147483648 <= x.0 && x.0 <= 2147483648
+}
+
+// The steps without their sign.
+fn unsigned(x: Sa32) -> u64
+    requires { ⌜ natAbs (x .0) ≤ 2 ^ 31 ⌝ }
+    ensures { λ r. ⌜ r ≡ natAbs (x .0) ⌝ }
+{
+    if x.0 < 0 { (-x.0) as u64 } else { x.0 as u64 }
+}
+
+// Whether every D32.4, times this D10, plus this D24, is a latitude: none is greater than 2^15 in size.
+pub fn is_always_latitude(scale: Sa32, from: Sa32) -> bool
+    requires { ⌜ (natAbs (scale .0) ≤ 2 ^ 31) × (natAbs (from .0) ≤ 2 ^ 31) ⌝ }
+    ensures { λ r. ⌜ r ≡ isAlwaysLatitude (scale .0) (from .0) ⌝ }
+{
+    unsigned(scale) * 32768 + unsigned(from) <= 2147483648
 }
 
 // Half of 2^24, with the sign of y. The choice is between two numbers, so that no branch is taken.

@@ -8,30 +8,40 @@ ghost use Rattle.format.specs.Sheet.{bodyLength};
 ghost use Rattle.format.specs.Writer.{listed, isHeaded, calledFor, isComplete};
 ghost use Rattle.shape.specs.Shape.{dueAfter};
 
-// The length of the body of each kind of record, from 0, which is no kind.
-const BODY_LENGTHS: [usize; 11] = [
+// The length of the body of each kind of record, from 0, which is no kind. One byte each: where it is used, the table is stored anew.
+const BODY_LENGTHS: [u8; 11] = [
     0,
-    format::HeaderRecord::LEN,
-    format::MissionRecord::LEN,
-    format::DwellRecord::LEN,
-    format::TargetRecord::LEN,
-    format::TextRecord::LEN,
-    format::PieceRecord::LEN,
-    format::OpaqueRecord::LEN,
-    format::JobRecord::LEN,
-    format::TestRecord::LEN,
-    format::LocationRecord::LEN,
+    format::HeaderRecord::LEN as u8,
+    format::MissionRecord::LEN as u8,
+    format::DwellRecord::LEN as u8,
+    format::TargetRecord::LEN as u8,
+    format::TextRecord::LEN as u8,
+    format::PieceRecord::LEN as u8,
+    format::OpaqueRecord::LEN as u8,
+    format::JobRecord::LEN as u8,
+    format::TestRecord::LEN as u8,
+    format::LocationRecord::LEN as u8,
 ];
 
-// The length of the body that a kind fixes. Most records are targets: known by a test, they are passed over without waiting for the table.
+fn wide(x: u8) -> usize
+    ensures { λ r. ⌜ r ≡ x ⌝ }
+{
+    x as usize
+}
+
+// The length of the body that a kind fixes. Most records are targets or pieces: known by a test, they are passed over without waiting for the
+// table.
 pub fn body_length(kind: u8) -> usize
     ensures { λ r. ⌜ (r ≡ bodyLength kind) × (r ≤ 87) ⌝ }
 {
     if kind == format::TargetRecord::KIND {
         return format::TargetRecord::LEN;
     }
+    if kind == format::PieceRecord::KIND {
+        return format::PieceRecord::LEN;
+    }
     if kind < 11 {
-        BODY_LENGTHS[kind as usize]
+        wide(BODY_LENGTHS[kind as usize])
     } else {
         0
     }

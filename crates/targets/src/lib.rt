@@ -91,14 +91,30 @@ fn middle(s: &[u8], p: usize, mask: u64, o: &mut [u8], q: usize) -> usize
     }
 }
 
-fn d32_16_to_18(s: &[u8], p: usize, mask: u64, o: &mut [u8], q: usize) -> usize
-    requires { ⌜ (p + announcedLength mask 47 (1 ∷ 4 ∷ 1 ∷ []) ≤ length (now s)) × (q + 6 ≤ length (now o)) ⌝ }
-    ensures { λ r. ⌜ r ≡ p + announcedLength mask 47 (1 ∷ 4 ∷ 1 ∷ []) ⌝ }
-    ensures { λ _. ⌜ now (o .exit) ≡ sets (now (o .entry)) q (fullFields mask 47 (1 ∷ 4 ∷ 1 ∷ []) (drop p (now (s .entry)))) ⌝ }
+fn d32_16_and_17(s: &[u8], p: usize, mask: u64, o: &mut [u8], q: usize) -> usize
+    requires { ⌜ (p + announcedLength mask 47 (1 ∷ 4 ∷ []) ≤ length (now s)) × (q + 5 ≤ length (now o)) ⌝ }
+    ensures { λ r. ⌜ r ≡ p + announcedLength mask 47 (1 ∷ 4 ∷ []) ⌝ }
+    ensures { λ _. ⌜ now (o .exit) ≡ sets (now (o .entry)) q (fullFields mask 47 (1 ∷ 4 ∷ []) (drop p (now (s .entry)))) ⌝ }
 {
     let a = fields::field1(s, p, mask, 47, o, q);
-    let b = fields::field4(s, a, mask, 48, o, q + 1);
-    fields::field1(s, b, mask, 49, o, q + 5)
+    fields::field4(s, a, mask, 48, o, q + 1)
+}
+
+// D32.6 to D32.17, all that Edition 1 has behind the position.
+const BEHIND: u64 = 0x0000_0000_1FFE_0000;
+
+fn behind(s: &[u8], p: usize, mask: u64, o: &mut [u8], q: usize) -> usize
+    requires { ⌜ (p + announcedLength mask 37 (2 ∷ 2 ∷ 2 ∷ 1 ∷ 1 ∷ 1 ∷ 2 ∷ 2 ∷ 1 ∷ 2 ∷ 1 ∷ 4 ∷ []) ≤ length (now s)) × (q + 21 ≤ length (now o)) ⌝ }
+    ensures { λ r. ⌜ r ≡ p + announcedLength mask 37 (2 ∷ 2 ∷ 2 ∷ 1 ∷ 1 ∷ 1 ∷ 2 ∷ 2 ∷ 1 ∷ 2 ∷ 1 ∷ 4 ∷ []) ⌝ }
+    ensures { λ _. ⌜ now (o .exit) ≡ sets (now (o .entry)) q (fullFields mask 37 (2 ∷ 2 ∷ 2 ∷ 1 ∷ 1 ∷ 1 ∷ 2 ∷ 2 ∷ 1 ∷ 2 ∷ 1 ∷ 4 ∷ []) (drop p (now (s .entry)))) ⌝ }
+{
+    if fields::has_all(mask, BEHIND) {
+        copies::copy21(s, p, o, q);
+        p + 21
+    } else {
+        let a = middle(s, p, mask, o, q);
+        d32_16_and_17(s, a, mask, o, q + 16)
+    }
 }
 
 // D32.1 to D32.18, 36 bytes.
@@ -110,6 +126,6 @@ pub fn target_fields(s: &[u8], p: usize, mask: u64, o: &mut [u8], q: usize) -> u
     let a = fields::field2(s, p, mask, 32, o, q);
     let b = places(s, a, mask, o, q + 2);
     let c = deltas(s, b, mask, o, q + 10);
-    let d = middle(s, c, mask, o, q + 14);
-    d32_16_to_18(s, d, mask, o, q + 30)
+    let d = behind(s, c, mask, o, q + 14);
+    fields::field1(s, d, mask, 49, o, q + 35)
 }

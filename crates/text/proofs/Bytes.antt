@@ -46,7 +46,8 @@ pub record Seen (s : List ℕ) (seen i : ℕ) : Type 0 where
   pub is : seen ≡ cond b 0 1
   pub rest : (b && isText (drop i s)) ≡ isText s
 
-or-is : (b c : Bool) → bitOr (cond b 0 1) (cond c 0 1) ≡ cond (b && c) 0 1
+-- two tests, each 0 where it holds and else 1, gathered in a byte
+pub or-is : (b c : Bool) → bitOr (cond b 0 1) (cond c 0 1) ≡ cond (b && c) 0 1
 or-is true true = refl
 or-is true false = refl
 or-is false true = refl

@@ -21,7 +21,7 @@ module _ (mask : ℕ) (h : (n : ℕ) → isRequired n ≡ true → announced mas
   unfolding isRequired announcedLength
   before-5 = rw (h 2 refl, h 3 refl, h 4 refl)
 
-  pub from-10 : (ws : List ℕ) → announcedLength mask 2 (2 ∷ 2 ∷ 1 ∷ 2 ∷ 4 ∷ 4 ∷ 4 ∷ 4 ∷ ws) ≡ 23 + announcedLength mask 10 ws
+  from-10 : (ws : List ℕ) → announcedLength mask 2 (2 ∷ 2 ∷ 1 ∷ 2 ∷ 4 ∷ 4 ∷ 4 ∷ 4 ∷ ws) ≡ 23 + announcedLength mask 10 ws
   unfolding isRequired announcedLength
   from-10 ws = rw (h 2 refl, h 3 refl, h 4 refl, h 5 refl, h 6 refl, h 7 refl, h 8 refl, h 9 refl) (omega arith)
 

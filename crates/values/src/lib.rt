@@ -1,6 +1,6 @@
 // The numbers in announced fields of a dwell and of its targets, read where they stand in the packet, and the rows of a target's values.
 ghost use mathlib.Core.Path.{_≡_};
-ghost use mathlib.Core.Bool.{true, _&&_};
+ghost use mathlib.Core.Bool.{true, not, _&&_, _||_};
 ghost use mathlib.Core.List.{[], _∷_};
 ghost use Prim.Native.Nat.{ℕ, _+_, _*_, _≤_, _^_};
 ghost use lib.Bits.{bitAnd};
@@ -9,6 +9,8 @@ ghost use lib.IntN.{natAbs};
 ghost use lib.ListN.{length};
 ghost use Rattle.mask.specs.Fields.{announced, taken, announcedLength, dwellWidths, targetWidths};
 ghost use Rattle.mask.specs.Mask.{isRequired};
+ghost use Rattle.position.specs.Position.{isLatitude};
+ghost use Rattle.position.specs.Always.{isAlwaysLatitude};
 ghost use Rattle.format.specs.Dwell.{maskOf, dwellFields, D, D±, targetCount, targetFields, D32, D32±, areaOf, latitude, longitude};
 ghost use Rattle.format.specs.Rows.{firstRow, targetRows, targetsRows};
 
@@ -33,35 +35,6 @@ pub fn target_count(b: &[u8]) -> u16
     ensures { λ r. ⌜ r ≡ targetCount (now (b .entry)) ⌝ }
 {
     octets::get_u16(b, 13)
-}
-
-// The announced bytes of D2 to D14, and of D2 to D23: where D15 and D24 stand behind the mask.
-fn before_d15(mask: u64) -> usize
-    requires { ⌜ ((n : ℕ) → isRequired n ≡ true → announced mask n ≡ true) ⌝ }
-    ensures { λ r. ⌜ (r ≡ announcedLength mask 2 (2 ∷ 2 ∷ 1 ∷ 2 ∷ 4 ∷ 4 ∷ 4 ∷ 4 ∷ 4 ∷ 4 ∷ 4 ∷ 4 ∷ 2 ∷ [])) × (r ≤ 41) ⌝ }
-{
-    23
-        + width_if(mask, 10, 4)
-        + width_if(mask, 11, 4)
-        + width_if(mask, 12, 4)
-        + width_if(mask, 13, 4)
-        + width_if(mask, 14, 2)
-}
-
-fn before_d24(mask: u64) -> usize
-    requires { ⌜ ((n : ℕ) → isRequired n ≡ true → announced mask n ≡ true) ⌝ }
-    ensures { λ r. ⌜ (r ≡ announcedLength mask 2 (2 ∷ 2 ∷ 1 ∷ 2 ∷ 4 ∷ 4 ∷ 4 ∷ 4 ∷ 4 ∷ 4 ∷ 4 ∷ 4 ∷ 2 ∷ 2 ∷ 4 ∷ 1 ∷ 1 ∷ 2 ∷ 2 ∷ 2 ∷ 2 ∷ 2 ∷ [])) × (r ≤ 59) ⌝ }
-{
-    before_d15(mask)
-        + width_if(mask, 15, 2)
-        + width_if(mask, 16, 4)
-        + width_if(mask, 17, 1)
-        + width_if(mask, 18, 1)
-        + width_if(mask, 19, 2)
-        + width_if(mask, 20, 2)
-        + width_if(mask, 21, 2)
-        + width_if(mask, 22, 2)
-        + width_if(mask, 23, 2)
 }
 
 // D10 and D11, which stand behind D2 to D9.
@@ -93,7 +66,7 @@ pub fn area(b: &[u8], mask: u64) -> format::Area
     ensures { λ r. ⌜ r ≡ areaOf (dwellFields (now (b .entry))) ⌝ }
     ensures { λ r. ⌜ (natAbs (r .d10 .0) ≤ 2 ^ 31) × (natAbs (r .d24 .0) ≤ 2 ^ 31) ⌝ }
 {
-    let at = 8 + before_d24(mask);
+    let at = 8 + mask::length_before_d24(mask);
     format::Area {
         d10: position::latitude_steps(d10(b, mask)),
         d11: position::Ba32(d11(b, mask)),
@@ -242,9 +215,33 @@ pub fn longitude_of(t: &[u8], mask: u64, area: format::Area) -> position::Ba32
     }
 }
 
+// Whether row 14 can apply to no target of the dwell: every D32.2 is a latitude, and where D10 and D24 are small enough every sum is one.
+fn is_always_latitude(mask: u64, area: format::Area) -> bool
+    requires { ⌜ (natAbs (area .d10 .0) ≤ 2 ^ 31) × (natAbs (area .d24 .0) ≤ 2 ^ 31) ⌝ }
+    ensures { λ r. ⌜ r ≡ (announced mask 33 || isAlwaysLatitude (area .d10 .0) (area .d24 .0)) ⌝ }
+{
+    if mask::has(mask, 33) {
+        true
+    } else {
+        position::is_always_latitude(area.d10, area.d24)
+    }
+}
+
+// Whether row 14 applies to the target at the front of t. Inside says that it can apply to none, and then the bytes are not looked at.
+fn is_out(t: &[u8], mask: u64, area: format::Area, inside: bool) -> bool
+    requires { ⌜ (announcedLength mask 32 targetWidths ≤ length (now t)) × (natAbs (area .d10 .0) ≤ 2 ^ 31) × (natAbs (area .d24 .0) ≤ 2 ^ 31) × (inside ≡ (announced mask 33 || isAlwaysLatitude (area .d10 .0) (area .d24 .0))) ⌝ }
+    ensures { λ r. ⌜ r ≡ not (isLatitude (latitude mask area (targetFields mask (now (t .entry))))) ⌝ }
+{
+    if inside {
+        false
+    } else {
+        !position::is_latitude(latitude_of(t, mask, area))
+    }
+}
+
 // The rows of the target at the front of t: 13 in field order, and then 14.
-fn target_check(t: &[u8], mask: u64, area: format::Area) -> format::Check
-    requires { ⌜ (announcedLength mask 32 targetWidths ≤ length (now t)) × (natAbs (area .d10 .0) ≤ 2 ^ 31) × (natAbs (area .d24 .0) ≤ 2 ^ 31) ⌝ }
+fn target_check(t: &[u8], mask: u64, area: format::Area, inside: bool) -> format::Check
+    requires { ⌜ (announcedLength mask 32 targetWidths ≤ length (now t)) × (natAbs (area .d10 .0) ≤ 2 ^ 31) × (natAbs (area .d24 .0) ≤ 2 ^ 31) × (inside ≡ (announced mask 33 || isAlwaysLatitude (area .d10 .0) (area .d24 .0))) ⌝ }
     ensures { λ r. ⌜ r ≡ firstRow (targetRows mask area (now (t .entry))) ⌝ }
 {
     if d32_6(t, mask) < -1000 {
@@ -265,7 +262,7 @@ fn target_check(t: &[u8], mask: u64, area: format::Area) -> format::Check
             field: 46,
         };
     }
-    if !position::is_latitude(latitude_of(t, mask, area)) {
+    if is_out(t, mask, area, inside) {
         return format::Check::Failed {
             number: 14,
             field: 35,
@@ -277,27 +274,22 @@ fn target_check(t: &[u8], mask: u64, area: format::Area) -> format::Check
 // D32.6, D32.11 and D32.15, the fields that have a bound.
 const BOUNDED: u64 = 0x0000_0000_1088_0000;
 
-// Whether no target with this mask can be at fault: it announces none of the fields that have a bound, and a D32.2, of which every value
-// is a latitude.
-fn is_always_within(mask: u64) -> bool
-    ensures { λ r. ⌜ r ≡ (announced mask 33 && eqb (bitAnd mask 0x1088_0000) 0) ⌝ }
+// Whether no target of the dwell can be at fault: row 14 can apply to none, and the mask announces none of the fields that have a bound.
+fn is_always_within(mask: u64, inside: bool) -> bool
+    ensures { λ r. ⌜ r ≡ (inside && eqb (bitAnd mask 0x1088_0000) 0) ⌝ }
 {
-    if mask::has(mask, 33) {
-        mask & BOUNDED == 0
-    } else {
-        false
-    }
+    if inside { mask & BOUNDED == 0 } else { false }
 }
 
 // The rows of so many targets from t on, target by target.
-fn each_check(t: &[u8], mask: u64, area: format::Area, count: usize) -> format::Check
-    requires { ⌜ (count * announcedLength mask 32 targetWidths ≤ length (now t)) × (natAbs (area .d10 .0) ≤ 2 ^ 31) × (natAbs (area .d24 .0) ≤ 2 ^ 31) ⌝ }
+fn each_check(t: &[u8], mask: u64, area: format::Area, inside: bool, count: usize) -> format::Check
+    requires { ⌜ (count * announcedLength mask 32 targetWidths ≤ length (now t)) × (natAbs (area .d10 .0) ≤ 2 ^ 31) × (natAbs (area .d24 .0) ≤ 2 ^ 31) × (inside ≡ (announced mask 33 || isAlwaysLatitude (area .d10 .0) (area .d24 .0))) ⌝ }
     ensures { λ r. ⌜ r ≡ firstRow (targetsRows mask area count (now (t .entry))) ⌝ }
 {
     let each = mask::target_length(mask);
     let mut p: usize = 0;
     for i in 0..count {
-        match target_check(&t[p..], mask, area) {
+        match target_check(&t[p..], mask, area, inside) {
             format::Check::Failed { number, field } => {
                 return format::Check::Failed { number, field };
             }
@@ -309,13 +301,14 @@ fn each_check(t: &[u8], mask: u64, area: format::Area, count: usize) -> format::
     format::Check::Passed
 }
 
-// The same, without a look at the targets where their mask decides.
+// The same, without a look at the targets where their mask and area decide.
 pub fn targets_check(t: &[u8], mask: u64, area: format::Area, count: usize) -> format::Check
     requires { ⌜ (count * announcedLength mask 32 targetWidths ≤ length (now t)) × (natAbs (area .d10 .0) ≤ 2 ^ 31) × (natAbs (area .d24 .0) ≤ 2 ^ 31) ⌝ }
     ensures { λ r. ⌜ r ≡ firstRow (targetsRows mask area count (now (t .entry))) ⌝ }
 {
-    if is_always_within(mask) {
+    let inside = is_always_latitude(mask, area);
+    if is_always_within(mask, inside) {
         return format::Check::Passed;
     }
-    each_check(t, mask, area, count)
+    each_check(t, mask, area, inside, count)
 }

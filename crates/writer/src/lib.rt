@@ -23,7 +23,7 @@ fn refused(number: usize) -> format::Answer
 // Row 19 of the packet that x spells: it must read to x. Only the packet's rows and the length of its sheet are worked out first; the
 // sheet is then compared with x a few records at a time.
 fn read_back(packet: &[u8], x: &[u8], window: &mut [u8]) -> format::Answer
-    requires { ⌜ (now packet ≡ spell (now x)) × (1024 ≤ length (now window)) ⌝ }
+    requires { ⌜ (now packet ≡ spell (now x)) × (512 ≤ length (now window)) ⌝ }
     ensures { λ a. ⌜ a ≡ writerAnswer (now (x .entry)) (cond (readsBack (spell (now (x .entry))) (now (x .entry))) Passed (Failed 19 0)) ⌝ }
 {
     match reader::check(3, packet) {
@@ -83,7 +83,7 @@ fn write_through(
     window: &mut [u8],
     o: &mut [u8],
 ) -> format::Answer
-    requires { ⌜ (Shaped (now x)) × (n ≡ length (spell (now x))) × (n ≤ 65536) × (n ≤ length (now spelt)) × (1024 ≤ length (now window)) ⌝ }
+    requires { ⌜ (Shaped (now x)) × (n ≡ length (spell (now x))) × (n ≤ 65536) × (n ≤ length (now spelt)) × (512 ≤ length (now window)) ⌝ }
     ensures { λ a. ⌜ a ≡ sheetAnswer (now (x .entry)) ⌝ }
     ensures { λ _. ⌜ now (o .exit) ≡ placed (sheetAnswer (now (x .entry))) (spell (now (x .entry))) (now (o .entry)) ⌝ }
 {
@@ -94,15 +94,15 @@ fn write_through(
     a
 }
 
-// An array is cleared before it is lent, so its size goes by the packet's length: 1,024 bytes, 8,192, or room for the longest packet.
+// An array is cleared before it is lent, so its size goes by the packet's length: 256 bytes, 2,048, 16,384, or room for the longest packet.
 fn small_in(
     x: &[u8],
     n: usize,
-    spelt: &mut [u8; 1024],
-    window: &mut [u8; 1024],
+    spelt: &mut [u8; 256],
+    window: &mut [u8; 512],
     o: &mut [u8],
 ) -> format::Answer
-    requires { ⌜ (Shaped (now x)) × (n ≡ length (spell (now x))) × (n ≤ 1024) ⌝ }
+    requires { ⌜ (Shaped (now x)) × (n ≡ length (spell (now x))) × (n ≤ 256) ⌝ }
     ensures { λ a. ⌜ a ≡ sheetAnswer (now (x .entry)) ⌝ }
     ensures { λ _. ⌜ now (o .exit) ≡ placed (sheetAnswer (now (x .entry))) (spell (now (x .entry))) (now (o .entry)) ⌝ }
 {
@@ -110,23 +110,23 @@ fn small_in(
 }
 
 fn write_small(x: &[u8], n: usize, o: &mut [u8]) -> format::Answer
-    requires { ⌜ (Shaped (now x)) × (n ≡ length (spell (now x))) × (n ≤ 1024) ⌝ }
+    requires { ⌜ (Shaped (now x)) × (n ≡ length (spell (now x))) × (n ≤ 256) ⌝ }
     ensures { λ a. ⌜ a ≡ sheetAnswer (now (x .entry)) ⌝ }
     ensures { λ _. ⌜ now (o .exit) ≡ placed (sheetAnswer (now (x .entry))) (spell (now (x .entry))) (now (o .entry)) ⌝ }
 {
-    let mut spelt = [0u8; 1024];
-    let mut window = [0u8; 1024];
+    let mut spelt = [0u8; 256];
+    let mut window = [0u8; 512];
     small_in(x, n, &mut spelt, &mut window, o)
 }
 
 fn middle_in(
     x: &[u8],
     n: usize,
-    spelt: &mut [u8; 8192],
-    window: &mut [u8; 1024],
+    spelt: &mut [u8; 2048],
+    window: &mut [u8; 512],
     o: &mut [u8],
 ) -> format::Answer
-    requires { ⌜ (Shaped (now x)) × (n ≡ length (spell (now x))) × (n ≤ 8192) ⌝ }
+    requires { ⌜ (Shaped (now x)) × (n ≡ length (spell (now x))) × (n ≤ 2048) ⌝ }
     ensures { λ a. ⌜ a ≡ sheetAnswer (now (x .entry)) ⌝ }
     ensures { λ _. ⌜ now (o .exit) ≡ placed (sheetAnswer (now (x .entry))) (spell (now (x .entry))) (now (o .entry)) ⌝ }
 {
@@ -134,20 +134,44 @@ fn middle_in(
 }
 
 fn write_middle(x: &[u8], n: usize, o: &mut [u8]) -> format::Answer
-    requires { ⌜ (Shaped (now x)) × (n ≡ length (spell (now x))) × (n ≤ 8192) ⌝ }
+    requires { ⌜ (Shaped (now x)) × (n ≡ length (spell (now x))) × (n ≤ 2048) ⌝ }
     ensures { λ a. ⌜ a ≡ sheetAnswer (now (x .entry)) ⌝ }
     ensures { λ _. ⌜ now (o .exit) ≡ placed (sheetAnswer (now (x .entry))) (spell (now (x .entry))) (now (o .entry)) ⌝ }
 {
-    let mut spelt = [0u8; 8192];
-    let mut window = [0u8; 1024];
+    let mut spelt = [0u8; 2048];
+    let mut window = [0u8; 512];
     middle_in(x, n, &mut spelt, &mut window, o)
 }
 
 fn large_in(
     x: &[u8],
     n: usize,
+    spelt: &mut [u8; 16384],
+    window: &mut [u8; 512],
+    o: &mut [u8],
+) -> format::Answer
+    requires { ⌜ (Shaped (now x)) × (n ≡ length (spell (now x))) × (n ≤ 16384) ⌝ }
+    ensures { λ a. ⌜ a ≡ sheetAnswer (now (x .entry)) ⌝ }
+    ensures { λ _. ⌜ now (o .exit) ≡ placed (sheetAnswer (now (x .entry))) (spell (now (x .entry))) (now (o .entry)) ⌝ }
+{
+    write_through(x, n, spelt, window, o)
+}
+
+fn write_large(x: &[u8], n: usize, o: &mut [u8]) -> format::Answer
+    requires { ⌜ (Shaped (now x)) × (n ≡ length (spell (now x))) × (n ≤ 16384) ⌝ }
+    ensures { λ a. ⌜ a ≡ sheetAnswer (now (x .entry)) ⌝ }
+    ensures { λ _. ⌜ now (o .exit) ≡ placed (sheetAnswer (now (x .entry))) (spell (now (x .entry))) (now (o .entry)) ⌝ }
+{
+    let mut spelt = [0u8; 16384];
+    let mut window = [0u8; 512];
+    large_in(x, n, &mut spelt, &mut window, o)
+}
+
+fn longest_in(
+    x: &[u8],
+    n: usize,
     spelt: &mut [u8; 65536],
-    window: &mut [u8; 1024],
+    window: &mut [u8; 512],
     o: &mut [u8],
 ) -> format::Answer
     requires { ⌜ (Shaped (now x)) × (n ≡ length (spell (now x))) × (n ≤ 65536) ⌝ }
@@ -157,14 +181,14 @@ fn large_in(
     write_through(x, n, spelt, window, o)
 }
 
-fn write_large(x: &[u8], n: usize, o: &mut [u8]) -> format::Answer
+fn write_longest(x: &[u8], n: usize, o: &mut [u8]) -> format::Answer
     requires { ⌜ (Shaped (now x)) × (n ≡ length (spell (now x))) × (n ≤ 65536) ⌝ }
     ensures { λ a. ⌜ a ≡ sheetAnswer (now (x .entry)) ⌝ }
     ensures { λ _. ⌜ now (o .exit) ≡ placed (sheetAnswer (now (x .entry))) (spell (now (x .entry))) (now (o .entry)) ⌝ }
 {
     let mut spelt = [0u8; 65536];
-    let mut window = [0u8; 1024];
-    large_in(x, n, &mut spelt, &mut window, o)
+    let mut window = [0u8; 512];
+    longest_in(x, n, &mut spelt, &mut window, o)
 }
 
 // A sheet of the right shape. No packet is longer than 65,536 bytes.
@@ -177,13 +201,16 @@ fn write_shaped(x: &[u8], o: &mut [u8]) -> format::Answer
     if 65536 < n {
         return refused(19);
     }
-    if n <= 1024 {
+    if n <= 256 {
         return write_small(x, n, o);
     }
-    if n <= 8192 {
+    if n <= 2048 {
         return write_middle(x, n, o);
     }
-    write_large(x, n, o)
+    if n <= 16384 {
+        return write_large(x, n, o);
+    }
+    write_longest(x, n, o)
 }
 
 // Rows 17 to 19 of any bytes; an accepted packet goes into the lent buffer where there is room for it.

@@ -23,7 +23,7 @@ abbrev μ-loop : tie.MeasureT-loop
 μ-loop b x window₀ at₀ q₀ window at q = length b - at
 
 -- a batch: some of the bytes that are left, and few
-few : (c : tie.After-least Inv-loop μ-loop) → let s = c .before .before .before .before .before .before in let l = c .before .before .loop in let k = c .least .result in (l .at + k ≤ length (now (s .args .b))) × (0 < k) × (k ≤ 960)
+few : (c : tie.After-least Inv-loop μ-loop) → let s = c .before .before .before .before .before .before in let l = c .before .before .loop in let k = c .least .result in (l .at + k ≤ length (now (s .args .b))) × (0 < k) × (k ≤ 480)
 few c = let t = c .before .loop-test .taken in (omega (arith, c .least .ensures, t), omega (arith, c .least .ensures, t), omega (arith, c .least .ensures))
 
 -- what is left of x behind its pieces

@@ -29,7 +29,7 @@ abbrev μ-loop : tie.MeasureT-loop
 μ-loop t mask area count x window₀ each done₀ window done = count - done
 
 -- a batch: its targets are some of those left, and few
-few : (c : tie.After-least Inv-loop μ-loop) → let s = c .before .before .before .before .before .before .before in let d = c .before .before .loop .done in let k = c .least .result in (d + k ≤ s .args .count) × (0 < k) × (k ≤ 22)
+few : (c : tie.After-least Inv-loop μ-loop) → let s = c .before .before .before .before .before .before .before in let d = c .before .before .loop .done in let k = c .least .result in (d + k ≤ s .args .count) × (0 < k) × (k ≤ 11)
 few c = let t = c .before .loop-test .taken in (omega (arith, c .least .ensures, t), omega (arith, c .least .ensures, t), omega (arith, c .least .ensures))
 
 -- they begin where the code says, and lie within

@@ -18,7 +18,7 @@ latitude-of-requires : tie.Need-latitude-of-requires
 latitude-of-requires c κs = search needs
 
 latitude-micro-requires : tie.Need-latitude-micro-requires
-latitude-micro-requires c κs = ap isLatitude (c .latitude-of .ensures) ∙ c .before .before .before .pre .4
+latitude-micro-requires c κs = ap isLatitude (c .latitude-of .ensures) ∙ c .before .before .before .before .before .before .before .before .before .before .before .pre .4
 
 longitude-of-requires : tie.Need-longitude-of-requires
 longitude-of-requires c κs = search needs
@@ -44,24 +44,26 @@ same-length c = search needs
 returns : tie.Need-returns
 returns c =
     let a = c .before .before .before .before .before .before .before .before .before .before .before .before .before .before .before .before .before .before .before .before .before .before .args in
-    target-laid (a .mask) (a .area) (now (a .t)) (now (a .o)) (c .before .before .before .before .before .before .before .before .before .before .before .before .before .before .before .before .before .before .latitude-micro .result) (c .before .before .before .before .before .before .before .before .before .before .before .before .before .before .before .before .longitude-micro .result)
-    (c .before .before .before .before .before .before .before .before .before .before .before .before .before .before .before .before .before .before .latitude-micro .ensures ∙ ap latitudeMicro (c .before .before .before .before .before .before .before .before .before .before .before .before .before .before .before .before .before .before .before .latitude-of .ensures))
-    (c .before .before .before .before .before .before .before .before .before .before .before .before .before .before .before .before .longitude-micro .ensures ∙ ap longitudeMicro (c .before .before .before .before .before .before .before .before .before .before .before .before .before .before .before .before .before .longitude-of .ensures))
-    (c .before .before .before .before .before .before .before .before .before .before .before .before .before .before .put-byte .ensures) (c .before .before .before .before .before .before .before .before .before .before .target-fields .ensures .1)
-    (c .before .before .before .before .before .before .put-i32 .ensures ∙ ap (λ (z : ℤ). sets (c .before .before .before .before .before .before .before .before .before .before .target-fields .last .1 .1 .1 .0) 37 (signedBytes 4 z)) (toZ-ofZ (sfits-of {w = w32} {z = c .before .before .before .before .before .before .before .before .before .before .before .before .before .before .before .before .before .before .latitude-micro .result} (c .before .before .before .before .before .before .before .before .before .before .before .before .before .before .before .before .before .before .latitude-micro .ok))))
+    let lat = c .before .before .before .before .before .before .before .before .before .before .latitude-micro in
+    let lon = c .before .before .before .before .longitude-micro in
+    target-laid (a .mask) (a .area) (now (a .t)) (now (a .o)) (lat .result) (lon .result)
+    (lat .ensures ∙ ap latitudeMicro (c .before .before .before .before .before .before .before .before .before .before .before .latitude-of .ensures))
+    (lon .ensures ∙ ap longitudeMicro (c .before .before .before .before .before .longitude-of .ensures))
+    (c .before .before .before .before .before .before .before .before .before .before .before .before .before .before .before .before .before .before .put-byte .ensures) (c .before .before .before .before .before .before .before .before .before .before .before .before .before .before .target-fields .ensures .1)
+    (c .before .before .before .before .before .before .before .before .put-i32 .ensures ∙ ap (λ (z : ℤ). sets (c .before .before .before .before .before .before .before .before .before .before .before .before .before .before .target-fields .last .1 .1 .1 .0) 37 (signedBytes 4 z)) (toZ-ofZ (sfits-of {w = w32} {z = lat .result} (lat .ok))))
     (c .before .before .put-u32 .ensures)
 
 pub target-record-spec : {M : Type 1} → statement M
 target-record-spec =
     tie.close
     (tie.spec
-    latitude-of-requires
-    latitude-micro-requires
-    longitude-of-requires
-    longitude-micro-requires
     put-byte-requires
     target-fields-requires
+    latitude-of-requires
+    latitude-micro-requires
     put-i32-requires
+    longitude-of-requires
+    longitude-micro-requires
     put-u32-requires
     same-length
     returns)

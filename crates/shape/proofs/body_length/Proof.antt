@@ -13,19 +13,25 @@ returns : tie.Need-returns
 unfolding bodyLength
 returns c = (sym (ap bodyLength (c .if1 .taken)), omega arith)
 
-mul-result : tie.Need-mul-result
-mul-result c = search needs
-
-array-read-result : tie.Need-array-read-result
-array-read-result c = search needs
-
 returns-2 : tie.Need-returns-2
 unfolding bodyLength
-returns-2 c = (refl, body-bound (c .before .before .args .kind) (c .if2 .taken))
+returns-2 c = (sym (ap bodyLength (c .if2 .taken)), omega arith)
+
+array-read-wide : tie.Need-array-read-wide
+array-read-wide c = search needs
+
+wide-requires : tie.Need-wide-requires
+wide-requires c κs = search needs
 
 returns-3 : tie.Need-returns-3
 unfolding bodyLength
-returns-3 c = (sym (List·getD-eq-default bodyLengths 0 {n = c .before .before .args .kind} (omega arith)), omega arith)
+returns-3 c =
+    let kind = c .before .before .before .before .args .kind in
+    (c .wide .ensures, omega (arith, c .wide .ensures, body-bound kind (c .before .if3 .taken)))
+
+returns-4 : tie.Need-returns-4
+unfolding bodyLength
+returns-4 c = (sym (List·getD-eq-default bodyLengths 0 {n = c .before .before .before .args .kind} (omega arith)), omega arith)
 
 pub body-length-spec : {M : Type 1} → statement M
-body-length-spec = tie.close (tie.spec returns mul-result array-read-result returns-2 returns-3)
+body-length-spec = tie.close (tie.spec returns returns-2 array-read-wide wide-requires returns-3 returns-4)

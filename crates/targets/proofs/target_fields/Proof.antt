@@ -30,19 +30,19 @@ deltas-requires : tie.Need-deltas-requires
 unfolding announcedLength
 deltas-requires c κs = omega arith
 
-add-middle : tie.Need-add-middle
-add-middle c = search needs
+add-behind : tie.Need-add-behind
+add-behind c = search needs
 
-middle-requires : tie.Need-middle-requires
+behind-requires : tie.Need-behind-requires
 unfolding announcedLength
-middle-requires c κs = omega arith
+behind-requires c κs = omega arith
 
-add-d32-16-to-18 : tie.Need-add-d32-16-to-18
-add-d32-16-to-18 c = search needs
+add-field1 : tie.Need-add-field1
+add-field1 c = search needs
 
-d32-16-to-18-requires : tie.Need-d32-16-to-18-requires
+field1-requires : tie.Need-field1-requires
 unfolding announcedLength
-d32-16-to-18-requires c κs = omega arith
+field1-requires c κs = omega arith
 
 same-length : tie.Need-same-length
 same-length c = search needs
@@ -51,15 +51,15 @@ returns : tie.Need-returns
 unfolding announcedLength total
 returns c =
     let a = c .before .before .before .before .before .before .before .before .before .before .before .before .before .before .before .before .before .before .before .before .before .before .args in
-    next (a .mask) 32 (2 ∷ 4 ∷ 4 ∷ 2 ∷ 2 ∷ 2 ∷ 2 ∷ 2 ∷ 1 ∷ 1 ∷ 1 ∷ 2 ∷ 2 ∷ 1 ∷ 2 ∷ []) (1 ∷ 4 ∷ 1 ∷ []) (now (a .s)) (now (a .o)) (a .p) (a .q) 47 (a .q + 30) refl refl
-    (next (a .mask) 32 (2 ∷ 4 ∷ 4 ∷ 2 ∷ 2 ∷ []) (2 ∷ 2 ∷ 2 ∷ 1 ∷ 1 ∷ 1 ∷ 2 ∷ 2 ∷ 1 ∷ 2 ∷ []) (now (a .s)) (now (a .o)) (a .p) (a .q) 37 (a .q + 14) refl refl
+    next (a .mask) 32 (2 ∷ 4 ∷ 4 ∷ 2 ∷ 2 ∷ 2 ∷ 2 ∷ 2 ∷ 1 ∷ 1 ∷ 1 ∷ 2 ∷ 2 ∷ 1 ∷ 2 ∷ 1 ∷ 4 ∷ []) (1 ∷ []) (now (a .s)) (now (a .o)) (a .p) (a .q) 49 (a .q + 35) refl refl
+    (next (a .mask) 32 (2 ∷ 4 ∷ 4 ∷ 2 ∷ 2 ∷ []) (2 ∷ 2 ∷ 2 ∷ 1 ∷ 1 ∷ 1 ∷ 2 ∷ 2 ∷ 1 ∷ 2 ∷ 1 ∷ 4 ∷ []) (now (a .s)) (now (a .o)) (a .p) (a .q) 37 (a .q + 14) refl refl
     (next (a .mask) 32 (2 ∷ 4 ∷ 4 ∷ []) (2 ∷ 2 ∷ []) (now (a .s)) (now (a .o)) (a .p) (a .q) 35 (a .q + 10) refl refl
     (next (a .mask) 32 (2 ∷ []) (4 ∷ 4 ∷ []) (now (a .s)) (now (a .o)) (a .p) (a .q) 33 (a .q + 2) refl refl
     (c .before .before .before .before .before .before .before .before .before .before .before .before .before .before .before .before .before .before .field2 .ensures)
     (c .before .before .before .before .before .before .before .before .before .before .before .before .before .before .places .ensures))
     (c .before .before .before .before .before .before .before .before .before .before .deltas .ensures))
-    (c .before .before .before .before .before .before .middle .ensures))
-    (c .before .before .d32-16-to-18 .ensures)
+    (c .before .before .before .before .before .before .behind .ensures))
+    (c .before .before .field1 .ensures)
 
 pub target-fields-spec : {M : Type 1} → statement M
 target-fields-spec =
@@ -70,9 +70,9 @@ target-fields-spec =
     places-requires
     add-deltas
     deltas-requires
-    add-middle
-    middle-requires
-    add-d32-16-to-18
-    d32-16-to-18-requires
+    add-behind
+    behind-requires
+    add-field1
+    field1-requires
     same-length
     returns)

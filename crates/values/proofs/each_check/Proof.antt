@@ -15,10 +15,10 @@ use Rattle.values.proofs.each_check.Statement.{statement}
 use Rattle.values.proofs.each_check.Tie as tie
 
 abbrev Inv-loop : tie.InvT-loop
-Inv-loop t mask area count each p₀ i₀ p i = (i ≤ count) × (each ≡ announcedLength mask 32 targetWidths) × (p ≡ i * announcedLength mask 32 targetWidths) × (firstRow (targetsRows mask area (count - i) (drop p t)) ≡ firstRow (targetsRows mask area count t))
+Inv-loop t mask area inside count each p₀ i₀ p i = (i ≤ count) × (each ≡ announcedLength mask 32 targetWidths) × (p ≡ i * announcedLength mask 32 targetWidths) × (firstRow (targetsRows mask area (count - i) (drop p t)) ≡ firstRow (targetsRows mask area count t))
 
 abbrev μ-loop : tie.MeasureT-loop
-μ-loop t mask area count each p₀ i₀ p i = count - i
+μ-loop t mask area inside count each p₀ i₀ p i = count - i
 
 -- in a turn the target lies within
 here : (c : tie.In-loop Inv-loop μ-loop) → let s = c .before .before .before .before in let l = c .before .loop in (l .i < s .args .count) × (l .p + announcedLength (s .args .mask) 32 targetWidths ≤ length (now (s .args .t)))
@@ -52,7 +52,7 @@ target-check-requires c κs =
     let l = c .before .before .loop in
     let h = here (c .before) in
     let d : announcedLength (s .args .mask) 32 targetWidths ≤ length (drop (l .p) (now (s .args .t))) = rw (length-drop (l .p) (now (s .args .t))) (omega arith) in
-    (subst (λ (x : List ℕ). announcedLength (s .args .mask) 32 targetWidths ≤ length x) (sym (tail-is (l .p) (now (s .args .t)))) d, s .pre .1, s .pre .2)
+    (subst (λ (x : List ℕ). announcedLength (s .args .mask) 32 targetWidths ≤ length x) (sym (tail-is (l .p) (now (s .args .t)))) d, s .pre .1, s .pre .2, s .pre .3)
 
 enum-known-number : tie.Need-enum-known-number Inv-loop μ-loop
 enum-known-number c = search needs

@@ -28,8 +28,8 @@ probability c = ap (ltb 100) (sym (c .d32-11 .ensures))
 error : (c : tie.After-d32-15) → let s = c .before .before .before .before .before .before in ltb 5000 (D32 15 (targetFields (s .args .mask) (now (s .args .t)))) ≡ ltb 5000 (c .d32-15 .result)
 error c = ap (ltb 5000) (sym (c .d32-15 .ensures))
 
-outside : (c : tie.After-is-latitude) → let s = c .before .before .before .before .before .before .before .before .before in not (isLatitude (latitude (s .args .mask) (s .args .area) (targetFields (s .args .mask) (now (s .args .t))))) ≡ not (c .is-latitude .result)
-outside c = ap not (sym (c .is-latitude .ensures ∙ ap isLatitude (c .before .latitude-of .ensures)))
+outside : (c : tie.After-is-out) → let s = c .before .before .before .before .before .before .before .before in not (isLatitude (latitude (s .args .mask) (s .args .area) (targetFields (s .args .mask) (now (s .args .t))))) ≡ c .is-out .result
+outside c = sym (c .is-out .ensures)
 
 d32-6-requires : tie.Need-d32-6-requires
 d32-6-requires c κs = search needs
@@ -49,17 +49,14 @@ d32-15-requires c κs = search needs
 returns-3 : tie.Need-returns-3
 returns-3 c = let s = c .before .before .before .before .before .before .before in sym (rows-are (s .args .mask) (s .args .area) (now (s .args .t)) (speed (c .before .before .before .before .before) ∙ c .before .before .before .before .if1 .left) (probability (c .before .before .before) ∙ le-ltb 100 (c .before .before .before .d32-11 .result) (omega arith)) (error (c .before) ∙ lt-ltb 5000 (c .before .d32-15 .result) (c .if3 .taken)) refl)
 
-latitude-of-requires : tie.Need-latitude-of-requires
-latitude-of-requires c κs = search needs
-
-is-latitude-requires : tie.Need-is-latitude-requires
-is-latitude-requires c κs = search needs
+is-out-requires : tie.Need-is-out-requires
+is-out-requires c κs = search needs
 
 returns-4 : tie.Need-returns-4
-returns-4 c = let s = c .before .before .before .before .before .before .before .before .before .before in sym (rows-are (s .args .mask) (s .args .area) (now (s .args .t)) (speed (c .before .before .before .before .before .before .before .before) ∙ c .before .before .before .before .before .before .before .if1 .left) (probability (c .before .before .before .before .before .before) ∙ le-ltb 100 (c .before .before .before .before .before .before .d32-11 .result) (omega arith)) (error (c .before .before .before .before) ∙ le-ltb 5000 (c .before .before .before .before .d32-15 .result) (omega arith)) (outside (c .before) ∙ c .if4 .taken))
+returns-4 c = let s = c .before .before .before .before .before .before .before .before .before in sym (rows-are (s .args .mask) (s .args .area) (now (s .args .t)) (speed (c .before .before .before .before .before .before .before) ∙ c .before .before .before .before .before .before .if1 .left) (probability (c .before .before .before .before .before) ∙ le-ltb 100 (c .before .before .before .before .before .d32-11 .result) (omega arith)) (error (c .before .before .before) ∙ le-ltb 5000 (c .before .before .before .d32-15 .result) (omega arith)) (outside (c .before) ∙ c .if4 .taken))
 
 returns-5 : tie.Need-returns-5
-returns-5 c = let s = c .before .before .before .before .before .before .before .before .before .before in sym (rows-are (s .args .mask) (s .args .area) (now (s .args .t)) (speed (c .before .before .before .before .before .before .before .before) ∙ c .before .before .before .before .before .before .before .if1 .left) (probability (c .before .before .before .before .before .before) ∙ le-ltb 100 (c .before .before .before .before .before .before .d32-11 .result) (omega arith)) (error (c .before .before .before .before) ∙ le-ltb 5000 (c .before .before .before .before .d32-15 .result) (omega arith)) (outside (c .before) ∙ c .if4 .left))
+returns-5 c = let s = c .before .before .before .before .before .before .before .before .before in sym (rows-are (s .args .mask) (s .args .area) (now (s .args .t)) (speed (c .before .before .before .before .before .before .before) ∙ c .before .before .before .before .before .before .if1 .left) (probability (c .before .before .before .before .before) ∙ le-ltb 100 (c .before .before .before .before .before .d32-11 .result) (omega arith)) (error (c .before .before .before) ∙ le-ltb 5000 (c .before .before .before .d32-15 .result) (omega arith)) (outside (c .before) ∙ c .if4 .left))
 
 pub target-check-spec : {M : Type 1} → statement M
 target-check-spec =
@@ -71,7 +68,6 @@ target-check-spec =
     returns-2
     d32-15-requires
     returns-3
-    latitude-of-requires
-    is-latitude-requires
+    is-out-requires
     returns-4
     returns-5)

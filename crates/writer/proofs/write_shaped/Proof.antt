@@ -47,6 +47,15 @@ same-length-3 c = search needs
 returns-4 : tie.Need-returns-4
 returns-4 c = search needs
 
+write-longest-requires : tie.Need-write-longest-requires
+write-longest-requires c κs = search needs
+
+same-length-4 : tie.Need-same-length-4
+same-length-4 c = search needs
+
+returns-5 : tie.Need-returns-5
+returns-5 c = search needs
+
 pub write-shaped-spec : {M : Type 1} → statement M
 write-shaped-spec =
     tie.close
@@ -62,4 +71,7 @@ write-shaped-spec =
     returns-3
     write-large-requires
     same-length-3
-    returns-4)
+    returns-4
+    write-longest-requires
+    same-length-4
+    returns-5)

@@ -1,0 +1,317 @@
+-- Every number of an answer fits 32 bits, whatever the edition, the bytes and the lent memory, so a caller in C has room for each. The
+-- rows and the fields that a refusal names are those of document 01. A packet that gets past its header has at most 65,536 bytes, so it has
+-- no more segments than that, and its sheet at most 736,953; the sheet has a record for whatever an acceptance counts.
+-- Assumes nothing.
+use Prim.Native.Nat.{ℕ, zero, suc, _+_, _^_, _≤_, _<_}
+use native.Mathlib.Omega.{arith}
+use mathlib.Core.Path.{_≡_, refl}
+use mathlib.Core.Bool.{Bool, true, false, cond, _&&_}
+use mathlib.Core.List.{List, [], _∷_, _++_}
+use borrow.Author.Tests.{ltb-false, leb-true}
+use lib.Dec.{T, ltb, leb, eqb, lit<, lit≤}
+use lib.ListN.{length, getD, take, drop, length-drop}
+use Rattle.octets.specs.Layout.{field as fieldOf}
+use Rattle.text.specs.Text.{isText, textFault}
+use Rattle.mask.specs.Fields.{announced}
+use Rattle.mask.specs.Mask.{firstFrom, isFault, lowestFault, isGap, d28to30, newInMask}
+use Rattle.format.specs.declared.Reading.{Reading}
+use Rattle.format.specs.declared.Area.{Area}
+use Rattle.format.specs.declared.Check.{Check}
+use Rattle.format.specs.declared.Check.the-variants.{Passed, Failed}
+use Rattle.format.specs.declared.Answer.{Answer}
+use Rattle.format.specs.declared.Answer.the-variants.{Accepted, Refused}
+use Rattle.format.specs.Packet.{headerWidths, headerTexts, Segment, typeAt, sizeAt, bodyAt, missionWidths, missionTexts, jobWidths, jobTexts, freeTextWidths, freeTextTexts}
+use Rattle.format.specs.Dwell.{maskOf, dwellFields, targetCount, targetsOf, targetLength, areaOf}
+use Rattle.format.specs.Edition.{isOlder}
+use Rattle.format.specs.Sheet.{Record, bodyLength}
+use Rattle.format.specs.Answer.{numbersOf}
+use Rattle.format.specs.Rows.{Row, firstRow, headerRows, missionRows, targetRows, targetsRows, dwellRows, jobRows, textRows, keptRows, bodyRows, segmentRows}
+use Rattle.format.specs.Reader.{Parsed, onward, parse, dwellsIn, targetsIn, readingOf, parsed, sheet, segmentsAnswer, readingAnswer, read}
+use Rattle.format.specs.Writer.{Listed, list, listed, spell, sheetRows, writerRows, writerAnswer, writingAnswer, write}
+use Rattle.format.proofs.Rows.{first-passes, neither, both}
+use Rattle.format.proofs.Acceptance.{header-sized}
+use Rattle.format.proofs.Longest.{sheet-longest}
+use Rattle.demands.specs.Counts.{count, isKind, isLeader}
+use Rattle.demands.proofs.Counts.{counts-are}
+
+-- what holds of two things holds of the one that a test picks
+either : {A : Type 0} (P : A → Type 0) (t : Bool) {x y : A} → P x → P y → P (cond t x y)
+either P true h k = h
+either P false h k = k
+
+-- ---- the fields that are named
+
+-- 65 is the highest number that a field has
+abbrev IsField : ℕ → Type 0
+IsField n = n ≤ 65
+
+-- so each of a list, as a test that computes
+abbrev areFields : List ℕ → Bool
+areFields [] = true
+areFields (n ∷ ns) = leb n 65 && areFields ns
+
+-- the first field that is not text is one of those looked at
+text-field : (ws ns b : List ℕ) → areFields ns ≡ true → IsField (textFault ws ns b)
+unfolding textFault
+text-field ws [] b h = lit≤ tt
+text-field ws (n ∷ ns) b h =
+    let t = both (leb n 65) (areFields ns) h in
+    either IsField (isText (fieldOf 1 ws n b)) (text-field ws ns b (t .1)) (leb-true n 65 (t .0))
+
+-- the first at which f holds, of k numbers from n on, is one of them
+first-field : (f : ℕ → Bool) (k n : ℕ) → n + k ≤ 66 → IsField (firstFrom f k n)
+unfolding firstFrom
+first-field f zero n h = omega arith
+first-field f (suc k) n h =
+    let here : n ≤ 65 = omega arith in
+    let behind : suc n + k ≤ 66 = omega arith in
+    either IsField (f n) here (first-field f k (suc n) behind)
+
+-- what is new in a mask is one of D28-30, or D32.18
+new-field : (mask : ℕ) → IsField (newInMask mask)
+unfolding newInMask
+new-field mask =
+    let gap = first-field (isGap mask d28to30) 3 28 (lit≤ tt) in
+    let last : IsField (cond (announced mask 49) 49 0) = either IsField (announced mask 49) (lit≤ tt) (lit≤ tt) in
+    either IsField (eqb (firstFrom (isGap mask d28to30) 3 28) 0) last gap
+
+-- ---- the rows
+
+-- where a row applies, its number is at most 20, the table's last, and it names a field
+unfoldable Small : Check → Type 0
+Small Passed = Unit {0}
+Small (Failed number field) = (number ≤ 20) × IsField field
+
+-- each row of a list has such a number and field
+data AllSmall : List Row → Type 0 where
+  none : AllSmall []
+  more : {r : Row} {rs : List Row} → T (leb (r .number) 20) → IsField (r .field) → AllSmall rs → AllSmall (r ∷ rs)
+
+-- a row whose field is fixed, before others
+fixed : {r : Row} {rs : List Row} → T (leb (r .number) 20) → T (leb (r .field) 65) → AllSmall rs → AllSmall (r ∷ rs)
+fixed n f h = more n (lit≤ f) h
+
+-- the first row that applies is one of the list
+first-small : {rs : List Row} → AllSmall rs → Small (firstRow rs)
+unfolding firstRow Small
+first-small none = tt
+first-small (more {r} {rs} n f h) = either Small (r .applies) (lit≤ n, f) (first-small h)
+
+-- two lists in a row
+append-small : {rs qs : List Row} → AllSmall rs → AllSmall qs → AllSmall (rs ++ qs)
+append-small none k = k
+append-small (more n f h) k = more n f (append-small h k)
+
+-- the call and the header
+header-small : (edition : ℕ) (l : List ℕ) → AllSmall (headerRows edition l)
+unfolding headerRows
+header-small edition l =
+    fixed tt tt (fixed tt tt (fixed tt tt (fixed tt tt (more tt (text-field headerWidths headerTexts l refl) none))))
+
+-- a mission
+mission-small : (b : List ℕ) → AllSmall (missionRows b)
+unfolding missionRows
+mission-small b = fixed tt tt (more tt (text-field missionWidths missionTexts b refl) (fixed tt tt (fixed tt tt none)))
+
+-- so many targets
+targets-small : (mask : ℕ) (area : Area) (n : ℕ) (t : List ℕ) → AllSmall (targetsRows mask area n t)
+unfolding targetsRows targetRows
+targets-small mask area zero t = none
+targets-small mask area (suc n) t =
+    append-small (fixed tt tt (fixed tt tt (fixed tt tt (fixed tt tt none)))) (targets-small mask area n (drop (targetLength mask) t))
+
+-- a dwell
+dwell-small : (r : Reading) (b : List ℕ) → AllSmall (dwellRows r b)
+unfolding dwellRows lowestFault
+dwell-small r b =
+    fixed tt tt
+    (more tt (first-field (isFault (r .version) (maskOf b)) 64 2 (lit≤ tt))
+    (more tt (either IsField (isOlder r) (new-field (maskOf b)) (lit≤ tt))
+    (fixed tt tt (fixed tt tt (fixed tt tt (targets-small (maskOf b) (areaOf (dwellFields b)) (targetCount b) (targetsOf b)))))))
+
+-- a job definition
+job-small : (r : Reading) (b : List ℕ) → AllSmall (jobRows r b)
+unfolding jobRows
+job-small r b = fixed tt tt (more tt (text-field jobWidths jobTexts b refl) (fixed tt tt none))
+
+-- free text
+text-small : (b : List ℕ) → AllSmall (textRows b)
+unfolding textRows
+text-small b = fixed tt tt (more tt (text-field (freeTextWidths b) freeTextTexts b refl) none)
+
+-- a body that is kept as bytes
+kept-small : (n : ℕ) (b : List ℕ) → AllSmall (keptRows n b)
+unfolding keptRows
+kept-small n b = fixed tt tt none
+
+-- any body
+body-small : (r : Reading) (t : ℕ) (b : List ℕ) → AllSmall (bodyRows r t b)
+unfolding bodyRows
+body-small r t b =
+    either AllSmall (eqb t 1) (mission-small b)
+    (either AllSmall (eqb t 2) (dwell-small r b)
+    (either AllSmall (eqb t 5) (job-small r b)
+    (either AllSmall (eqb t 6) (text-small b)
+    (either AllSmall (eqb t 10) (kept-small 14 b)
+    (either AllSmall (eqb t 13) (kept-small 23 b) none)))))
+
+-- any segment
+segment-small : (r : Reading) (l : List ℕ) → AllSmall (segmentRows r l)
+unfolding segmentRows
+segment-small r l = fixed tt tt (fixed tt tt (fixed tt tt (fixed tt tt (body-small r (typeAt l) (bodyAt l)))))
+
+-- the writer
+writer-small : (x : List ℕ) (lent : ℕ) → AllSmall (writerRows x lent)
+unfolding writerRows sheetRows
+writer-small x lent = fixed tt tt (fixed tt tt (fixed tt tt (fixed tt tt none)))
+
+-- ---- the segments
+
+-- the walk finds at most k of them, and the row that ends it is small
+parse-small : (r : Reading) (k : ℕ) (l : List ℕ) → (length (parse r k l .segments) ≤ k) × Small (parse r k l .ending)
+unfolding parse Small
+parse-small r zero l = (lit≤ tt, tt)
+parse-small r (suc k) [] = (omega arith, tt)
+parse-small r (suc k) (x ∷ xs) =
+    go (firstRow (segmentRows r (x ∷ xs))) (first-small (segment-small r (x ∷ xs))) (parse-small r k (drop (sizeAt (x ∷ xs)) (x ∷ xs)))
+  where
+    rest : Parsed
+    rest = parse r k (drop (sizeAt (x ∷ xs)) (x ∷ xs))
+
+    first : Segment
+    first = record { type = typeAt (x ∷ xs); body = bodyAt (x ∷ xs) }
+
+    go : (c : Check) → Small c → (length (rest .segments) ≤ k) × Small (rest .ending)
+        → (length (onward c first rest .segments) ≤ suc k) × Small (onward c first rest .ending)
+    go Passed s i = (omega (arith, i .0), i .1)
+    go (Failed number field) s i = (omega arith, s)
+
+-- ---- the counts
+
+-- a count of records is at most their number
+count-within : (f : Record → Bool) (rs : List Record) → count f rs ≤ length rs
+unfolding count
+count-within f [] = omega arith
+count-within f (r ∷ rs) = go (f r) (count-within f rs)
+  where
+    go : (b : Bool) → count f rs ≤ length rs → cond b 1 0 + count f rs ≤ suc (length rs)
+    go true h = omega arith
+    go false h = omega arith
+
+-- a sheet has no more records than bytes
+list-within : (k : ℕ) (x : List ℕ) → length (list k x .records) ≤ k
+unfolding list
+list-within zero x = omega arith
+list-within (suc k) [] = omega arith
+list-within (suc k) (kind ∷ x) = go (ltb 0 (bodyLength kind) && leb (bodyLength kind) (length x)) (list-within k (drop (bodyLength kind) x))
+  where
+    rest : Listed
+    rest = list k (drop (bodyLength kind) x)
+
+    whole : Listed
+    whole = record { records = record { kind = kind; body = take (bodyLength kind) x } ∷ rest .records; whole = rest .whole }
+
+    go : (t : Bool) → length (rest .records) ≤ k → length (cond t whole (record { records = []; whole = false }) .records) ≤ suc k
+    go true h = omega arith
+    go false h = omega arith
+
+-- so a count of its records is at most its length
+counted-within : (f : Record → Bool) (x : List ℕ) → count f (listed x .records) ≤ length x
+counted-within f x = omega (arith, count-within f (listed x .records), list-within (length x) x)
+
+-- ---- the numbers of an answer
+
+-- each number of a list is at most the length of the longest sheet
+data AllWithin : List ℕ → Type 0 where
+  no-number : AllWithin []
+  one-more : {n : ℕ} {ns : List ℕ} → n ≤ 736953 → AllWithin ns → AllWithin (n ∷ ns)
+
+-- a zero before others
+zero-more : {ns : List ℕ} → AllWithin ns → AllWithin (0 ∷ ns)
+zero-more h = one-more (lit≤ tt) h
+
+-- such numbers fit
+within-fits : {ns : List ℕ} → AllWithin ns → (i : ℕ) → getD ns i 0 < 2 ^ 32
+within-fits no-number i = lit< tt
+within-fits (one-more h k) zero = omega arith
+within-fits (one-more h k) (suc i) = within-fits k i
+
+-- a refusal
+refused-within : (number segment field : ℕ) → (number ≤ 20) × IsField field → segment ≤ 736953 → AllWithin (numbersOf (Refused number segment field))
+unfolding numbersOf
+refused-within number segment field h k =
+    let n : number ≤ 736953 = omega (arith, h .0) in
+    let f : field ≤ 736953 = omega (arith, h .1) in
+    one-more n (one-more k (one-more f (zero-more (zero-more (zero-more (zero-more no-number))))))
+
+-- an acceptance with the counts of a packet that is not too long, and a length
+accepted-within : (edition : ℕ) (l : List ℕ) (n : ℕ) → length l ≤ 65536 → n ≤ 736953
+    → AllWithin (numbersOf (Accepted (length (parsed edition l .segments)) (dwellsIn (parsed edition l .segments)) (targetsIn (parsed edition l .segments)) n))
+unfolding numbersOf
+accepted-within edition l n short h =
+    let c = counts-are edition l in
+    let x = sheet edition l in
+    let long = sheet-longest edition l short in
+    zero-more (zero-more (zero-more
+    (one-more (omega (arith, c .segments-are, counted-within isLeader x))
+    (one-more (omega (arith, c .dwells-are, counted-within (isKind 3) x))
+    (one-more (omega (arith, c .targets-are, counted-within (isKind 4) x))
+    (one-more h no-number))))))
+
+-- ---- the answers
+
+-- a reading, by the first row of the header and by how the walk over the segments ends
+reading-within : (edition : ℕ) (l : List ℕ) (lent : ℕ) → AllWithin (numbersOf (readingAnswer edition l lent))
+unfolding readingAnswer parsed Small
+reading-within edition l lent = go (firstRow (headerRows edition l)) refl (first-small (header-small edition l))
+  where
+    m : ℕ
+    m = length (sheet edition l)
+
+    walked : (length (parsed edition l .segments) ≤ length (drop 32 l)) × Small (parsed edition l .ending)
+    walked = parse-small (readingOf edition l) (length (drop 32 l)) (drop 32 l)
+
+    ended : length l ≤ 65536 → (c : Check) → Small c → AllWithin (numbersOf (segmentsAnswer (record { segments = parsed edition l .segments; ending = c }) m lent))
+    ended short Passed s =
+        either (λ (a : Answer). AllWithin (numbersOf a)) (leb m lent)
+        (accepted-within edition l m short (sheet-longest edition l short))
+        (refused-within 16 0 0 (lit≤ tt, lit≤ tt) (lit≤ tt))
+    ended short (Failed number field) s =
+        refused-within number (length (parsed edition l .segments) + 1) field s (omega (arith, walked .0, length-drop 32 l))
+
+    go : (c : Check) → firstRow (headerRows edition l) ≡ c → Small c
+        → AllWithin (numbersOf (elim c [ Passed ↦ segmentsAnswer (parsed edition l) m lent | Failed number field ↦ Refused number 0 field ]))
+    go Passed e s = ended (header-sized edition l e .short) (parsed edition l .ending) (walked .1)
+    go (Failed number field) e s = refused-within number 0 field s (lit≤ tt)
+
+-- where no row applies to a sheet, the packet that it spells is not too long (row 19)
+spelt-short : (x : List ℕ) (lent : ℕ) → firstRow (writerRows x lent) ≡ Passed → length (spell x) ≤ 65536
+unfolding writerRows sheetRows
+spelt-short x lent e =
+    let seventeen = first-passes _ _ e in
+    let eighteen = first-passes _ _ (seventeen .1) in
+    let nineteen = first-passes _ _ (eighteen .1) in
+    ltb-false _ _ (neither (ltb 65536 (length (spell x))) _ (nineteen .0) .0)
+
+-- the writer, by the first row that applies
+writing-within : (x : List ℕ) (lent : ℕ) → AllWithin (numbersOf (writingAnswer x lent))
+unfolding writingAnswer Small
+writing-within x lent = go (firstRow (writerRows x lent)) refl (first-small (writer-small x lent))
+  where
+    go : (c : Check) → firstRow (writerRows x lent) ≡ c → Small c → AllWithin (numbersOf (writerAnswer x c))
+    go Passed e s =
+        let short = spelt-short x lent e in
+        accepted-within 3 (spell x) (length (spell x)) short (omega arith)
+    go (Failed number field) e s = refused-within number 0 0 (s .0, lit≤ tt) (lit≤ tt)
+
+-- ---- the outcomes
+
+-- whatever is read, as any edition, onto any sheet
+pub read-numbers-fit : (edition : ℕ) (l lent : List ℕ) (i : ℕ) → getD (read edition l lent .numbers) i 0 < 2 ^ 32
+unfolding read
+read-numbers-fit edition l lent = within-fits (reading-within edition l (length lent))
+
+-- whatever is written, into any buffer
+pub write-numbers-fit : (x lent : List ℕ) (i : ℕ) → getD (write x lent .numbers) i 0 < 2 ^ 32
+unfolding write
+write-numbers-fit x lent = within-fits (writing-within x (length lent))

@@ -1,0 +1,62 @@
+// The library for C and Rust: both readings and the writer, exported under names of C. A slice is a pointer and a length there, and an
+// answer is room for seven numbers of 32 bits. Nothing is asked of the bytes that are handed in; that each pointer has as many as its length
+// says, and that lent memory lies apart from the rest, is the caller's care.
+ghost use mathlib.Core.Path.{_≡_};
+ghost use Prim.Native.Nat.{ℕ, _^_, _<_};
+ghost use lib.ListN.{getD};
+ghost use Rattle.format.specs.Answer.{numbersOf};
+ghost use Rattle.format.specs.Reader.{read as readOutcome};
+ghost use Rattle.format.specs.Writer.{write as writeOutcome};
+
+// The seven numbers of an answer, in their order: number, segment, field, segments, dwells, targets, length. A caller in C takes 32 bits of each,
+// so they must fit; those of both calls below do, whatever they are given (crate demands, proofs/Numbers.antt).
+fn put_numbers(a: format::Answer, o: &mut [u32; 7])
+    requires { ⌜ ((i : ℕ) → getD (numbersOf a) i 0 < 2 ^ 32) ⌝ }
+    ensures { λ _. ⌜ now (o .exit) ≡ numbersOf a ⌝ }
+{
+    match a {
+        format::Answer::Accepted {
+            segments,
+            dwells,
+            targets,
+            length,
+        } => {
+            *o = [
+                0,
+                0,
+                0,
+                segments as u32,
+                dwells as u32,
+                targets as u32,
+                length as u32,
+            ];
+        }
+        format::Answer::Refused {
+            number,
+            segment,
+            field,
+        } => {
+            *o = [number as u32, segment as u32, field as u32, 0, 0, 0, 0];
+        }
+    }
+}
+
+// Reads the packet as this edition onto the lent sheet, for C:
+// void gmti_read(uint32_t edition, const uint8_t *packet, size_t packet_length, uint8_t *sheet, size_t sheet_length, uint32_t *answer)
+#[no_mangle]
+pub extern "C" fn gmti_read(edition: u32, packet: &[u8], sheet: &mut [u8], answer: &mut [u32; 7])
+    ensures { λ _. ⌜ now (answer .exit) ≡ readOutcome edition (now (packet .entry)) (now (sheet .entry)) .numbers ⌝ }
+    ensures { λ _. ⌜ now (sheet .exit) ≡ readOutcome edition (now (packet .entry)) (now (sheet .entry)) .left ⌝ }
+{
+    put_numbers(reader::read(edition, packet, sheet), answer);
+}
+
+// Writes the packet that reads to this sheet into the lent buffer, for C:
+// void gmti_write(const uint8_t *sheet, size_t sheet_length, uint8_t *packet, size_t packet_length, uint32_t *answer)
+#[no_mangle]
+pub extern "C" fn gmti_write(sheet: &[u8], packet: &mut [u8], answer: &mut [u32; 7])
+    ensures { λ _. ⌜ now (answer .exit) ≡ writeOutcome (now (sheet .entry)) (now (packet .entry)) .numbers ⌝ }
+    ensures { λ _. ⌜ now (packet .exit) ≡ writeOutcome (now (sheet .entry)) (now (packet .entry)) .left ⌝ }
+{
+    put_numbers(writer::write(sheet, packet), answer);
+}

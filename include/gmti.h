@@ -1,0 +1,51 @@
+/* GMTI packets (STANAG 4607, Editions 1 and 3): one packet to one sheet and back.
+ *
+ * Link libgmti.a, which `rt staticlib gmti` proves and builds for x86-64. docs/MANUAL.md explains the sheet and the refusals.
+ *
+ * Both functions take any bytes. What the caller must see to:
+ * - A pointer leads to as many bytes as its length says. It may be null only where its length is 0.
+ * - `answer` leads to seven numbers.
+ * - No two of the runs of bytes and the answer overlap.
+ * The library keeps no pointer and no state, so threads may call side by side.
+ */
+#ifndef GMTI_H
+#define GMTI_H
+
+#include <stddef.h>
+#include <stdint.h>
+
+#ifdef __cplusplus
+extern "C" {
+#endif
+
+/* No packet has more bytes than this. */
+#define GMTI_LONGEST_PACKET 65536
+
+/* No packet has a sheet of more bytes than this. */
+#define GMTI_LONGEST_SHEET 736953
+
+/* The places of an answer. Accepted: the first three are 0. Refused: the last four are 0. */
+enum {
+    GMTI_NUMBER = 0,   /* the number of the refusal, or 0 where the input is accepted */
+    GMTI_SEGMENT = 1,  /* the segment that it is about, from 1; 0 for the call, the header, the end and the writer */
+    GMTI_FIELD = 2,    /* the field that it names, or 0 */
+    GMTI_SEGMENTS = 3, /* how many segments the packet has */
+    GMTI_DWELLS = 4,   /* how many of them are dwells */
+    GMTI_TARGETS = 5,  /* how many targets these have together */
+    GMTI_LENGTH = 6    /* the length of the sheet; from gmti_write, of the packet */
+};
+
+/* Reads one packet as Edition 1 or 3 and sets it out on the lent sheet. An accepted packet fills the first answer[GMTI_LENGTH]
+ * bytes of the sheet and leaves the rest as it was; a refused one leaves the whole sheet as it was. */
+void gmti_read(uint32_t edition, const uint8_t *packet, size_t packet_length, uint8_t *sheet, size_t sheet_length,
+               uint32_t answer[7]);
+
+/* Writes the packet that reads, as Edition 3, to just this sheet. An accepted sheet fills the first answer[GMTI_LENGTH] bytes of the
+ * lent packet and leaves the rest as it was; a refused one leaves the whole packet as it was. It takes some 70 kB of stack. */
+void gmti_write(const uint8_t *sheet, size_t sheet_length, uint8_t *packet, size_t packet_length, uint32_t answer[7]);
+
+#ifdef __cplusplus
+}
+#endif
+
+#endif

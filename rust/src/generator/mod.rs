@@ -1,0 +1,18 @@
+//! Packets and sheets for tests, each from a seed: the same seed gives the same bytes. Nothing here keeps state or panics.
+//!
+//! [`valid`] makes packets that the Edition 3 reading accepts, [`aimed`] packets to which a given row applies or two of them, [`damage`]
+//! changes bytes blindly, and [`sheets`] does all three with sheets.
+
+pub mod aimed;
+pub mod damage;
+pub mod faults;
+pub mod faulty;
+pub mod random;
+pub mod records;
+pub mod sheet_faults;
+pub mod sheets;
+pub mod spelling;
+pub mod tables;
+pub mod valid;
+
+pub use random::Random;

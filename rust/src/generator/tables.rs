@@ -1,0 +1,105 @@
+//! The tables of document 01 that the generator spells packets and sheets by. They are its own: neither implementation is asked.
+
+/// Widths of D2 to D31.
+pub const DWELL_WIDTHS: [usize; 30] = [2, 2, 1, 2, 4, 4, 4, 4, 4, 4, 4, 4, 2, 2, 4, 1, 1, 2, 2, 2, 2, 2, 4, 4, 2, 2, 2, 2, 2, 1];
+
+/// Widths of D32.1 to D32.18.
+pub const TARGET_WIDTHS: [usize; 18] = [2, 4, 4, 2, 2, 2, 2, 2, 1, 1, 1, 2, 2, 1, 2, 1, 4, 1];
+
+/// The fields that every mask announces.
+pub const ALWAYS: [u32; 12] = [2, 3, 4, 5, 6, 7, 8, 9, 24, 25, 26, 27];
+
+/// D10, D11, D32.4, D32.5: positions by deltas.
+pub const DELTAS: [u32; 4] = [10, 11, 35, 36];
+
+/// D32.2, D32.3: positions in full.
+pub const ABSOLUTE: [u32; 2] = [33, 34];
+
+/// D28 to D30, a group in version 1.
+pub const ANGLES: [u32; 3] = [28, 29, 30];
+
+/// D32.18, reserved in version 1.
+pub const LAST_FIELD: u32 = 49;
+
+/// The groups of both versions.
+pub const GROUPS: [&[u32]; 7] = [&[12, 13, 14], &[15, 16, 17], &[18, 19, 20], &[21, 22, 23], &DELTAS, &ABSOLUTE, &[47, 48]];
+
+/// Fields of a target that may be announced by themselves: D32.1 and D32.6 to D32.15.
+pub const SINGLE: [u32; 11] = [32, 37, 38, 39, 40, 41, 42, 43, 44, 45, 46];
+
+/// The types whose body is kept as it is.
+pub const OPAQUE_TYPES: [u8; 9] = [3, 4, 7, 8, 9, 11, 12, 101, 102];
+
+/// The types with records of their own.
+pub const OWN_TYPES: [u8; 6] = [1, 2, 5, 6, 10, 13];
+
+/// Values of J14 that are new in Edition 3.
+pub const NEW_MODES: [u8; 16] = [91, 92, 93, 96, 97, 101, 102, 103, 104, 111, 112, 113, 120, 121, 122, 123];
+
+/// Text fields of a packet's header: field, first byte, byte after the last.
+pub const HEADER_TEXT: [(u32, usize, usize); 3] = [(3, 6, 8), (5, 9, 11), (8, 14, 24)];
+
+/// Text fields of the bodies of segments: type, field, first byte, byte after the last. F3 goes on to the end of the body.
+pub const BODY_TEXT: [(u8, u32, usize, usize); 7] =
+    [(1, 1, 0, 12), (1, 2, 12, 24), (1, 4, 25, 35), (5, 3, 5, 11), (6, 1, 0, 10), (6, 2, 10, 20), (6, 3, 20, usize::MAX)];
+
+/// Lengths of the bodies of records by kind; there is no kind 0.
+pub const RECORD_LENGTHS: [usize; 11] = [0, 32, 39, 87, 44, 24, 33, 5, 69, 14, 23];
+
+/// Where D5 and D27 stand in the body of a kind 3 record.
+pub const D5_PLACE: usize = 13;
+/// See [`D5_PLACE`].
+pub const D27_PLACE: usize = 77;
+
+/// Where J14 and J26 stand in the body of a job definition.
+pub const J14_PLACE: usize = 45;
+/// See [`J14_PLACE`].
+pub const J26_PLACE: usize = 65;
+
+/// Where M6 and M7 stand in the body of a mission.
+pub const M6_PLACE: usize = 37;
+/// See [`M6_PLACE`].
+pub const M7_PLACE: usize = 38;
+
+/// The mask bit of a field from 2 to 65, and no bit for any other number.
+pub const fn bit(field: u32) -> u64 {
+    if field < 2 || field > 65 {
+        return 0;
+    }
+    1 << (65 - field)
+}
+
+/// The mask of these fields.
+pub fn mask_of(fields: &[u32]) -> u64 {
+    fields.iter().fold(0, |mask, field| mask | bit(*field))
+}
+
+/// The width of a field from 2 to 49; other bits announce nothing.
+pub fn width(field: u32) -> usize {
+    match field {
+        2..=31 => DWELL_WIDTHS[field as usize - 2],
+        32..=49 => TARGET_WIDTHS[field as usize - 32],
+        _ => 0,
+    }
+}
+
+/// How many bytes the announced fields take, of those from the first to the last.
+pub fn announced_width(mask: u64, first: u32, last: u32) -> usize {
+    (first..=last).filter(|field| mask & bit(*field) != 0).map(width).sum()
+}
+
+/// Whether a byte may stand in text.
+pub fn is_text(byte: u8) -> bool {
+    matches!(byte, 0x20..=0x7E | 0x0A | 0x0C | 0x0D)
+}
+
+/// The body length of a type that has just one.
+pub fn fixed_body(segment_type: u8) -> Option<usize> {
+    match segment_type {
+        1 => Some(39),
+        5 => Some(68),
+        10 => Some(14),
+        13 => Some(23),
+        _ => None,
+    }
+}
