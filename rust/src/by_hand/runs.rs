@@ -1,7 +1,8 @@
-//! Targets by a plan: the runs of bytes that the announced fields form are laid out once for each dwell, and copied for each target.
+//! Targets by a plan: the runs of bytes that the announced fields form are laid out once for each dwell, and copied for each target, with a
+//! constant length, since calls for runs of their own lengths take longer.
 use super::bytes;
 use super::mask::{self, bit};
-use super::position::{microdegrees, Area};
+use super::position::{microdegrees, Area, Origin};
 use super::targets::RECORD;
 
 /// The widths of D32.1 to D32.18.
@@ -54,20 +55,50 @@ pub fn fill(mask: u64, from: &[u8], first: usize, records: &mut [u8]) {
     }
 }
 
+/// What is copied for a run: no run is longer, and a constant length is copied in a few steps.
+const COPIED: usize = 32;
+
+/// More bytes than a target or a record has, with what a copy takes beyond its end.
+const WINDOW: usize = 80;
+
 #[inline(never)]
 fn copy_runs<const DELTA: bool>(mask: u64, from: &[u8], first: usize, records: &mut [u8]) {
     let origin = Area::of(mask, from).origin();
     let plan = Plan::of(mask);
-    let runs = &plan.runs[..plan.count];
     let position = if bit(mask, 32) != 0 { 2 } else { 0 };
-    for (record, target) in records.chunks_exact_mut(RECORD).zip(from[first..].chunks_exact(plan.each)) {
-        record.fill(0);
-        record[0] = 4;
-        for run in runs {
-            record[run.to..run.to + run.length].copy_from_slice(&target[run.from..run.from + run.length]);
-        }
-        let fields =
-            if DELTA { u64::from(u32::from_be_bytes(bytes(target, position))) << 32 } else { u64::from_be_bytes(bytes(target, position)) };
-        record[37..].copy_from_slice(&microdegrees::<DELTA>(&origin, fields));
+    let (mut at, mut to) = (first, 0);
+    while let (Some(target), Some(record)) = (from[at..].first_chunk(), records[to..].first_chunk_mut()) {
+        copy_target::<DELTA>(&plan, position, &origin, target, record);
+        at += plan.each;
+        to += RECORD;
     }
+    copy_last::<DELTA>(&plan, position, &origin, &from[at..], &mut records[to..]);
+}
+
+/// The targets or records that end less than a window before the end.
+#[inline(never)]
+fn copy_last<const DELTA: bool>(plan: &Plan, position: usize, origin: &Origin, from: &[u8], records: &mut [u8]) {
+    for (index, record) in records.chunks_exact_mut(RECORD).enumerate() {
+        let rest = &from[index * plan.each..];
+        let (mut target, mut laid) = ([0; WINDOW], [0; WINDOW]);
+        let length = rest.len().min(WINDOW);
+        target[..length].copy_from_slice(&rest[..length]);
+        copy_target::<DELTA>(plan, position, origin, &target, &mut laid);
+        record.copy_from_slice(&laid[..RECORD]);
+    }
+}
+
+/// The runs are copied in order, each with some bytes too many; what is too many is cleared, or written over by the next run or record.
+#[inline(always)]
+fn copy_target<const DELTA: bool>(plan: &Plan, position: usize, origin: &Origin, target: &[u8; WINDOW], record: &mut [u8; WINDOW]) {
+    record[0] = 4;
+    record[1..1 + COPIED].fill(0);
+    for run in &plan.runs[..plan.count] {
+        let copied: [u8; COPIED] = bytes(target, run.from);
+        record[run.to..run.to + COPIED].copy_from_slice(&copied);
+        record[run.to + run.length..run.to + run.length + COPIED].fill(0);
+    }
+    let fields = u64::from_be_bytes(bytes(target, position));
+    let fields = if DELTA { fields & 0xFFFF_FFFF_0000_0000 } else { fields };
+    record[37..RECORD].copy_from_slice(&microdegrees::<DELTA>(origin, fields));
 }
