@@ -41,7 +41,7 @@ void gmti_read(uint32_t edition, const uint8_t *packet, size_t packet_length, ui
                uint32_t answer[7]);
 
 /* Writes the packet that reads, as Edition 3, to just this sheet. An accepted sheet fills the first answer[GMTI_LENGTH] bytes of the
- * lent packet and leaves the rest as it was; a refused one leaves the whole packet as it was. It takes some 70 kB of stack. */
+ * lent packet and leaves the rest as it was; a refused one leaves the whole packet as it was. It takes some 67 kB of stack. */
 void gmti_write(const uint8_t *sheet, size_t sheet_length, uint8_t *packet, size_t packet_length, uint32_t answer[7]);
 
 #ifdef __cplusplus

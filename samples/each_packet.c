@@ -1,6 +1,7 @@
 /* Reads a recording, packets one after another, from standard input, each by its P2, and prints for each its offset, its length and its
  * answer. The edition is the argument, 1 or 3; without one it is 3. Where P2 cannot be trusted, all that is left counts as one packet,
- * which is always refused; the program then ends with a message and with status 1. */
+ * which is always refused; the program then ends with a message and with status 1. It ends with status 1 too where a line could not be
+ * written. */
 #include "gmti.h"
 
 #include <inttypes.h>
@@ -68,5 +69,5 @@ int main(int count, char **words) {
         at += length;
     }
     free(recording);
-    return stopped || fflush(stdout) != 0;
+    return stopped || fflush(stdout) != 0 || ferror(stdout) != 0;
 }

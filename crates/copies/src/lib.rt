@@ -1,5 +1,5 @@
-// Bytes copied from p on in s to q on in o, all loaded before the first is stored, and zeros stored. A number that is read and
-// written is copied in one move, which a loop over its bytes is not.
+// Bytes copied from p on in s to q on in o, and zeros stored. Up to 8 bytes are read as a number and written as one, which is one move;
+// a loop over its bytes is not. A longer run is copied as several such, one after another.
 ghost use mathlib.Core.Path.{_≡_};
 ghost use mathlib.Core.List.{[]};
 ghost use Prim.Native.Nat.{_+_, _≤_};
@@ -113,7 +113,7 @@ pub fn copy68(s: &[u8], p: usize, o: &mut [u8], q: usize)
     copy4(s, p + 64, o, q + 64);
 }
 
-// All of s, byte by byte: for the few bytes of a last piece.
+// All of s, byte by byte: for runs of any length, from the bytes of a last piece to a whole packet.
 pub fn copy_all(s: &[u8], o: &mut [u8], q: usize)
     requires { ⌜ q + length (now s) ≤ length (now o) ⌝ }
     ensures { λ _. ⌜ now (o .exit) ≡ sets (now (o .entry)) q (now (s .entry)) ⌝ }

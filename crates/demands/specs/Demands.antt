@@ -60,7 +60,7 @@ pub record Counted (x : List ℕ) (segments dwells targets n : ℕ) : Type 0 whe
   pub length-is : n ≡ length x
 
 -- demand 2 itself: the counts, "exactly" in both directions, and that the writer can return "that packet": hence no two packets have the
--- same sheet
+-- same Edition 3 sheet
 pub record Demand2 : Type 0 where
   pub counts : (edition : ℕ) (l lent : List ℕ) (s d t n : ℕ) → read edition l lent .answer ≡ Accepted s d t n
       → Counted (sheet edition l) s d t n

@@ -1,5 +1,5 @@
-// One announced field laid out at its full width: from p on in s, to q on in o. Every function over fields, here and in the crates
-// above, has the same contract, over a list of widths; it answers where the next field begins in s.
+// One announced field laid out at its full width: from p on in s, to q on in o; each of `field1`, `field2` and `field4` answers where the
+// next field begins in s. The functions of dwells and targets, which lay out several, promise the same over longer lists of widths.
 ghost use mathlib.Core.Path.{_≡_};
 ghost use mathlib.Core.List.{[], _∷_};
 ghost use Prim.Native.Nat.{_+_, _≤_};

@@ -1,17 +1,24 @@
-// Runs demand 3 on packets: reads a list of them from standard input, one a line, as `NAME: HEX`. It answers each by `NAME: ` and `alike`
-// or `new` with the answer of the Edition 1 reading, or by the refusal of the Edition 3 reading, or by `broken`.
+// Judges packets by both readings: reads a list of them from standard input, one a line, as `NAME: HEX`. It answers each by `NAME: ` and `alike`
+// or `new` with the answer of the Edition 1 reading, or by the refusal of the Edition 3 reading, or by `broken`; or by what is wrong with
+// the line.
 ghost use mathlib.Core.Path.{_≡_};
 ghost use mathlib.Core.Bool.{cond};
+ghost use mathlib.Core.List.{[], _∷_, _++_};
 ghost use Prim.Native.Nat.{_+_, _/_, _≤_};
 ghost use lib.Dec.{eqb};
 ghost use lib.ListN.{length};
+ghost use lib.Seq.{sets};
+ghost use Rattle.lines.specs.Lines.{before, NextWithin};
 ghost use Rattle.format.specs.Packet.{version};
 ghost use Rattle.format.specs.Answer.{outcome};
 ghost use Rattle.format.specs.Reader.{read};
 ghost use Rattle.gmti_editions.specs.declared.Verdict.the-variants.{New, Broken};
 ghost use Rattle.gmti_editions.specs.Verdict.{isReturned, isAlike, olderVerdict, verdict as verdictOf};
+ghost use Rattle.vectors.specs.declared.Fault.the-variants.{Nothing};
+ghost use Rattle.vectors.specs.Vectors.{hexFault, unhexed};
+ghost use Rattle.gmti_editions.specs.Line.{judgedText, packetText, hexOf, lineFault, saidOf, answerOf};
 
-// What a run of demand 3 on a packet finds.
+// What both readings and the writer make of a packet.
 enum Verdict {
     // The Edition 3 reading refuses the packet: the demand says nothing of it.
     NotRead,
@@ -121,7 +128,7 @@ fn older_verdict(
     }
 }
 
-// Both readings of the packet l, and the writer. It is proved that no version 3 packet is Broken.
+// Both readings of the packet l, and the writer. By demand 3 no version 3 packet is Broken, given a buffer at least as long as it.
 fn judge(l: &[u8], older: &mut [u8], newer: &mut [u8], buffer: &mut [u8]) -> Judged
     requires { ⌜ length (now older) ≡ length (now newer) ⌝ }
     ensures { λ j. ⌜ j .verdict ≡ verdictOf (now (l .entry)) (now (older .entry)) (now (newer .entry)) (now (buffer .entry)) ⌝ }
@@ -163,7 +170,8 @@ fn judge(l: &[u8], older: &mut [u8], newer: &mut [u8], buffer: &mut [u8]) -> Jud
 // The word of a verdict, and the answer behind it: that of the Edition 1 reading, or the Edition 3 reading's refusal.
 fn put_judged(o: &mut [u8], at: usize, j: Judged) -> usize
     requires { ⌜ at + 92 ≤ length (now o) ⌝ }
-    ensures { λ r. ⌜ r ≤ at + 92 ⌝ }
+    ensures { λ r. ⌜ (r ≡ at + length (judgedText (j .verdict) (j .newer) (j .older))) × (r ≤ at + 92) ⌝ }
+    ensures { λ _. ⌜ now (o .exit) ≡ sets (now (o .entry)) at (judgedText (j .verdict) (j .newer) (j .older)) ⌝ }
 {
     let verdict = j.verdict;
     let newer = j.newer;
@@ -185,17 +193,54 @@ fn put_judged(o: &mut [u8], at: usize, j: Judged) -> usize
     }
 }
 
-// The line that answers the packet of this name.
-fn print_judged(name: &[u8], j: Judged, out: &mut [u8])
+// The line that answers the packet of this name, at the front of out; answers its length.
+fn put_line(out: &mut [u8], name: &[u8], j: Judged) -> usize
     requires { ⌜ length (now name) + 95 ≤ length (now out) ⌝ }
+    ensures { λ r. ⌜ (r ≡ length (now (name .entry) ++ (58 ∷ 32 ∷ []) ++ judgedText (j .verdict) (j .newer) (j .older) ++ (10 ∷ []))) × (r ≤ length (now (out .exit))) ⌝ }
+    ensures { λ _. ⌜ now (out .exit) ≡ sets (now (out .entry)) 0 (now (name .entry) ++ (58 ∷ 32 ∷ []) ++ judgedText (j .verdict) (j .newer) (j .older) ++ (10 ∷ [])) ⌝ }
 {
     let p = vectors::put_name(out, name);
     let q = put_judged(out, p, j);
     out[q] = b'\n';
-    let end = q + 1;
-    io::write_all(1, &out[..end]);
+    q + 1
 }
 
+// What is wrong with a line whose name ends at this place.
+fn fault(line: &[u8], name: usize) -> vectors::Fault
+    requires { ⌜ name ≡ before 58 (now line) ⌝ }
+    ensures { λ r. ⌜ r ≡ lineFault (now (line .entry)) ⌝ }
+{
+    if !vectors::is_colon(line, name) {
+        return vectors::Fault::Form;
+    }
+    let hex = vectors::further(line, name, 2);
+    vectors::hex_fault(&line[hex..])
+}
+
+// The line that answers the packet of a line without fault, whose name ends at this place.
+fn put_packet(
+    line: &[u8],
+    name: usize,
+    packet: &mut [u8],
+    older: &mut [u8],
+    newer: &mut [u8],
+    buffer: &mut [u8],
+    out: &mut [u8],
+) -> usize
+    requires { ⌜ (name ≡ before 58 (now line)) × (hexFault (hexOf (now line)) ≡ Nothing) ⌝ }
+    requires { ⌜ length (now line) / 2 ≤ length (now packet) ⌝ }
+    requires { ⌜ length (now older) ≡ length (now newer) ⌝ }
+    requires { ⌜ length (now line) + 95 ≤ length (now out) ⌝ }
+    ensures { λ r. ⌜ (r ≡ length (saidOf (now (line .entry)) (packetText (unhexed (hexOf (now (line .entry)))) (now (older .entry)) (now (newer .entry)) (now (buffer .entry))))) × (r ≤ length (now (out .exit))) ⌝ }
+    ensures { λ _. ⌜ now (out .exit) ≡ sets (now (out .entry)) 0 (saidOf (now (line .entry)) (packetText (unhexed (hexOf (now (line .entry)))) (now (older .entry)) (now (newer .entry)) (now (buffer .entry)))) ⌝ }
+{
+    let hex = vectors::further(line, name, 2);
+    let n = vectors::unhex(&line[hex..], packet);
+    let j = judge(&packet[..n], older, newer, buffer);
+    put_line(out, &line[..name], j)
+}
+
+// The line that answers a line, at the front of out; answers its length.
 fn answer(
     line: &[u8],
     packet: &mut [u8],
@@ -203,64 +248,62 @@ fn answer(
     newer: &mut [u8],
     buffer: &mut [u8],
     out: &mut [u8],
-)
+) -> usize
     requires { ⌜ length (now line) / 2 ≤ length (now packet) ⌝ }
     requires { ⌜ length (now older) ≡ length (now newer) ⌝ }
     requires { ⌜ length (now line) + 95 ≤ length (now out) ⌝ }
+    ensures { λ r. ⌜ (r ≡ length (answerOf (now (line .entry)) (now (older .entry)) (now (newer .entry)) (now (buffer .entry)))) × (r ≤ length (now (out .exit))) ⌝ }
+    ensures { λ _. ⌜ now (out .exit) ≡ sets (now (out .entry)) 0 (answerOf (now (line .entry)) (now (older .entry)) (now (newer .entry)) (now (buffer .entry))) ⌝ }
 {
-    let name = vectors::find(line, 0, b':');
-    let hex = vectors::further(line, name, 2);
-    let n = vectors::unhex(&line[hex..], packet);
-    let j = judge(&packet[..n], older, newer, buffer);
-    print_judged(&line[..name], j, out);
+    let name = lines::find(line, 0, b':');
+    let f = fault(line, name);
+    let vectors::Fault::Nothing = f else {
+        return vectors::put_unread(out, &line[..name], f);
+    };
+    put_packet(line, name, packet, older, newer, buffer, out)
 }
 
-fn answer_in(
-    line: &[u8],
-    packet: &mut [u8; 131072],
-    older: &mut [u8; 736953],
-    newer: &mut [u8; 736953],
-    buffer: &mut [u8; 65536],
-    out: &mut [u8; 262239],
-)
-    requires { ⌜ length (now line) ≤ 262144 ⌝ }
-{
-    answer(line, packet, older, newer, buffer, out);
+fn write(s: &[u8]) -> bool {
+    streams::write_all(b"gmti_editions: standard output is cut", s)
 }
 
-fn answer_all(
-    s: &[u8],
-    packet: &mut [u8; 131072],
-    older: &mut [u8; 736953],
-    newer: &mut [u8; 736953],
-    buffer: &mut [u8; 65536],
-    out: &mut [u8; 262239],
-)
-    requires { ⌜ length (now s) ≤ 262144 ⌝ }
+// The line that answers one of which only the front is held.
+fn write_long(front: &[u8], out: &mut [u8]) -> bool
+    requires { ⌜ length (now front) + 16 ≤ length (now out) ⌝ }
 {
-    let mut at = 0;
-    while at < s.len() {
-        let end = vectors::find(s, at, b'\n');
-        answer_in(&s[at..end], packet, older, newer, buffer, out);
-        at = end + 1;
+    let name = lines::find(front, 0, b':');
+    let n = vectors::put_unread(out, &front[..name], vectors::Fault::Length);
+    write(printing::front(out, n))
+}
+
+// Answers what comes next, and whether to go on.
+fn write_next(
+    next: lines::Next,
+    input: &[u8],
+    packet: &mut [u8],
+    older: &mut [u8],
+    newer: &mut [u8],
+    buffer: &mut [u8],
+    out: &mut [u8],
+) -> bool
+    requires { ⌜ NextWithin (length (now input)) next ⌝ }
+    requires { ⌜ length (now input) / 2 ≤ length (now packet) ⌝ }
+    requires { ⌜ length (now older) ≡ length (now newer) ⌝ }
+    requires { ⌜ length (now input) + 95 ≤ length (now out) ⌝ }
+{
+    match next {
+        lines::Next::Line(from, to) => {
+            let n = answer(&input[from..to], packet, older, newer, buffer, out);
+            write(printing::front(out, n))
+        }
+        lines::Next::Long => write_long(input, out),
+        lines::Next::End => false,
+        lines::Next::Failed => false,
     }
 }
 
+// As in `streams`, the turns are counted down so that the loop is seen to end.
 fn run(
-    input: &mut [u8],
-    packet: &mut [u8; 131072],
-    older: &mut [u8; 736953],
-    newer: &mut [u8; 736953],
-    buffer: &mut [u8; 65536],
-    out: &mut [u8; 262239],
-)
-    requires { ⌜ length (now input) ≤ 262144 ⌝ }
-{
-    let n = io::read_full(0, input);
-    answer_all(&input[..n], packet, older, newer, buffer, out);
-}
-
-fn run_in(
     input: &mut [u8; 262144],
     packet: &mut [u8; 131072],
     older: &mut [u8; 736953],
@@ -268,7 +311,16 @@ fn run_in(
     buffer: &mut [u8; 65536],
     out: &mut [u8; 262239],
 ) {
-    run(input, packet, older, newer, buffer, out);
+    let mut held = lines::Held::nothing();
+    let mut goes_on = true;
+    let mut turns = u64::MAX;
+    while turns > 0 && goes_on {
+        let step = lines::next_line(b"gmti_editions: standard input", input, held);
+        let next = step.next;
+        goes_on = write_next(next, input, packet, older, newer, buffer, out);
+        held = step.held;
+        turns -= 1;
+    }
 }
 
 fn main() {
@@ -278,7 +330,7 @@ fn main() {
     let mut newer = [0u8; 736953];
     let mut buffer = [0u8; 65536];
     let mut out = [0u8; 262239];
-    run_in(
+    run(
         &mut input,
         &mut packet,
         &mut older,

@@ -32,13 +32,20 @@ fn edition_asked() -> u32 {
     }
 }
 
+fn write(s: &[u8]) {
+    streams::write_all(b"gmti_sheet: standard output is cut", s);
+}
+
 // A packet has at most 65,536 bytes: one byte more tells that the input is longer, and row 2 refuses it.
 fn run(packet: &mut [u8], sheet: &mut [u8], line: &mut [u8])
     requires { ⌜ 96 ≤ length (now line) ⌝ }
 {
-    let n = io::read_full(0, packet);
+    let input = streams::read_all(b"gmti_sheet: standard input", packet);
+    let streams::Input::Read(n) = input else {
+        return;
+    };
     let edition = edition_asked();
-    let a = reader::read(edition, &packet[..n], sheet);
+    let a = reader::read(edition, printing::front(packet, n), sheet);
     match a {
         format::Answer::Accepted {
             segments: _,
@@ -46,7 +53,7 @@ fn run(packet: &mut [u8], sheet: &mut [u8], line: &mut [u8])
             targets: _,
             length,
         } => {
-            io::write_all(1, printing::front(sheet, length));
+            write(printing::front(sheet, length));
         }
         format::Answer::Refused {
             number: _,
@@ -54,7 +61,7 @@ fn run(packet: &mut [u8], sheet: &mut [u8], line: &mut [u8])
             field: _,
         } => {
             let k = printing::answer_line(line, a);
-            io::write_all(1, printing::front(line, k));
+            write(printing::front(line, k));
         }
     }
 }

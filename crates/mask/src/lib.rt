@@ -44,7 +44,7 @@ fn missing(mask: u64, set: u64) -> u64
     (mask & set) ^ set
 }
 
-// The fields of the set that the mask has. The constant is a parameter here: `bitAnd` unfolds where its first operand is a numeral.
+// The fields of the set that the mask has.
 fn common(mask: u64, set: u64) -> u64
     ensures { λ r. ⌜ ((n : ℕ) → announced r n ≡ (announced set n && announced mask n)) ⌝ }
 {

@@ -1,25 +1,26 @@
-// The parts of a program that reads test vectors as text. Nothing is asked of the text itself.
+// The parts of a program that reads a list of packets or sheets as text, one a line. Nothing is asked of the text itself: a line that
+// has not its program's form is answered by what is wrong with it.
 ghost use mathlib.Core.Path.{_≡_};
 ghost use mathlib.Core.List.{[], _∷_, _++_};
 ghost use Prim.Native.Nat.{_+_, _*_, _/_, _≤_, _<_, min};
 ghost use lib.ListN.{length, drop};
 ghost use lib.Seq.{sets};
-ghost use Rattle.vectors.specs.Vectors.{before, digitValue, withDigit, spelt, nibble, unhexed, hexDigit, hexed, vectorLine};
+ghost use Rattle.vectors.specs.Vectors.{isColon, isDigit, isNumber, digitValue, withDigit, spelt, hexFault, isHex, nibble, unhexed, hexDigit, hexed, faultText, unreadLine, vectorLine};
 
-// The place of the first byte b from `at` on, or the end of s.
-pub fn find(s: &[u8], at: usize, b: u8) -> usize
-    requires { ⌜ at ≤ length (now s) ⌝ }
-    ensures { λ r. ⌜ r ≡ at + before b (drop at (now (s .entry))) ⌝ }
-    ensures { λ r. ⌜ (at ≤ r) × (r ≤ length (now (s .entry))) ⌝ }
-{
-    let mut i = at;
-    while i < s.len() {
-        if s[i] == b {
-            return i;
-        }
-        i += 1;
-    }
-    i
+// What is wrong with a line.
+pub enum Fault {
+    // It is in its program's form.
+    Nothing,
+    // It lacks a colon or a space where one is due.
+    Form,
+    // A number has another character than digits, or is too large.
+    Number,
+    // A character is no hex digit.
+    Digit,
+    // The last byte has one hex digit.
+    Half,
+    // The line is longer than the program holds.
+    Length,
 }
 
 // The place k bytes further, or the end of s.
@@ -30,54 +31,108 @@ pub fn further(s: &[u8], at: usize, k: usize) -> usize
     if s.len() - at < k { s.len() } else { at + k }
 }
 
+// Whether a colon and a space stand at this place.
+pub fn is_colon(s: &[u8], at: usize) -> bool
+    requires { ⌜ at ≤ length (now s) ⌝ }
+    ensures { λ r. ⌜ r ≡ isColon (drop at (now (s .entry))) ⌝ }
+{
+    if s.len() - at < 2 {
+        return false;
+    }
+    s[at] == b':' && s[at + 1] == b' '
+}
+
+fn is_digit(c: u8) -> bool
+    ensures { λ r. ⌜ r ≡ isDigit c ⌝ }
+{
+    b'0' <= c && c <= b'9'
+}
+
+// Whether s is digits, one at least.
+pub fn is_number(s: &[u8]) -> bool
+    ensures { λ r. ⌜ r ≡ isNumber (now (s .entry)) ⌝ }
+{
+    for i in 0..s.len() {
+        if !is_digit(s[i]) {
+            return false;
+        }
+    }
+    s.len() > 0
+}
+
 fn digit_value(c: u8) -> u64
     ensures { λ r. ⌜ (r ≡ digitValue c) × (r < 10) ⌝ }
 {
-    if c < 48 {
-        0
-    } else if c < 58 {
-        (c - 48) as u64
-    } else {
-        0
-    }
+    if is_digit(c) { (c - 48) as u64 } else { 0 }
 }
 
-fn with_digit(n: u32, c: u8) -> u32
-    ensures { λ r. ⌜ r ≡ withDigit n c ⌝ }
+fn with_digit(n: u64, c: u8) -> u64
+    requires { ⌜ n ≤ 4294967296 ⌝ }
+    ensures { λ r. ⌜ (r ≡ withDigit n c) × (r ≤ 4294967296) ⌝ }
 {
-    let m = (n as u64) * 10 + digit_value(c);
-    if m < 4294967295 { m as u32 } else { 4294967295 }
+    let m = n * 10 + digit_value(c);
+    if m < 4294967296 { m } else { 4294967296 }
 }
 
-// The decimal number that s spells, cut to the largest u32.
-pub fn number(s: &[u8]) -> u32
+// The number that the digits of s spell; 2^32 stands for any that 32 bits do not hold.
+pub fn number(s: &[u8]) -> u64
     ensures { λ r. ⌜ r ≡ spelt (now (s .entry)) 0 ⌝ }
 {
-    let mut n: u32 = 0;
+    let mut n: u64 = 0;
     for i in 0..s.len() {
         n = with_digit(n, s[i]);
     }
     n
 }
 
+// The value of a hex digit, and 16 for a character that is none.
 fn nibble(c: u8) -> u8
-    ensures { λ r. ⌜ (r ≡ nibble c) × (r < 16) ⌝ }
+    ensures { λ r. ⌜ (r ≡ nibble c) × (r ≤ 16) ⌝ }
 {
     if c < 48 {
-        0
+        16
     } else if c < 58 {
         c - 48
+    } else if c < 65 {
+        16
+    } else if c < 71 {
+        c - 55
     } else if c < 97 {
-        0
+        16
     } else if c < 103 {
         c - 87
     } else {
-        0
+        16
     }
+}
+
+fn is_hex(s: &[u8]) -> bool
+    ensures { λ r. ⌜ r ≡ isHex (now (s .entry)) ⌝ }
+{
+    for i in 0..s.len() {
+        if nibble(s[i]) == 16 {
+            return false;
+        }
+    }
+    true
+}
+
+// What keeps s from being bytes in hex.
+pub fn hex_fault(s: &[u8]) -> Fault
+    ensures { λ r. ⌜ r ≡ hexFault (now (s .entry)) ⌝ }
+{
+    if !is_hex(s) {
+        return Fault::Digit;
+    }
+    if s.len() % 2 != 0 {
+        return Fault::Half;
+    }
+    Fault::Nothing
 }
 
 // The bytes that the hex digits of s spell, at the front of o; answers how many.
 pub fn unhex(s: &[u8], o: &mut [u8]) -> usize
+    requires { ⌜ hexFault (now s) ≡ Fault.Nothing ⌝ }
     requires { ⌜ length (now s) / 2 ≤ length (now o) ⌝ }
     ensures { λ r. ⌜ (r ≡ length (now (s .entry)) / 2) × (r ≤ length (now (o .exit))) ⌝ }
     ensures { λ _. ⌜ now (o .exit) ≡ sets (now (o .entry)) 0 (unhexed (now (s .entry))) ⌝ }
@@ -135,4 +190,41 @@ pub fn put_line(o: &mut [u8], name: &[u8], a: format::Answer, sheet: &[u8]) -> u
     let r = put_hex(o, q + 1, sheet);
     o[r] = b'\n';
     r + 1
+}
+
+// The words for what is wrong with a line, from `at` on in o; answers the place behind them.
+fn put_fault(o: &mut [u8], at: usize, f: Fault) -> usize
+    requires { ⌜ at + 13 ≤ length (now o) ⌝ }
+    ensures { λ r. ⌜ (r ≡ at + length (faultText f)) × (r ≤ at + 13) ⌝ }
+    ensures { λ _. ⌜ now (o .exit) ≡ sets (now (o .entry)) at (faultText f) ⌝ }
+{
+    match f {
+        Fault::Nothing => at,
+        Fault::Form => put_word(o, at, b"unread form"),
+        Fault::Number => put_word(o, at, b"unread number"),
+        Fault::Digit => put_word(o, at, b"unread digit"),
+        Fault::Half => put_word(o, at, b"unread half"),
+        Fault::Length => put_word(o, at, b"unread length"),
+    }
+}
+
+fn put_word(o: &mut [u8], at: usize, word: &[u8]) -> usize
+    requires { ⌜ at + length (now word) ≤ length (now o) ⌝ }
+    ensures { λ r. ⌜ r ≡ at + length (now (word .entry)) ⌝ }
+    ensures { λ _. ⌜ now (o .exit) ≡ sets (now (o .entry)) at (now (word .entry)) ⌝ }
+{
+    copies::copy_all(word, o, at);
+    at + word.len()
+}
+
+// The line that answers one that is not read, at the front of o; answers its length.
+pub fn put_unread(o: &mut [u8], name: &[u8], f: Fault) -> usize
+    requires { ⌜ length (now name) + 16 ≤ length (now o) ⌝ }
+    ensures { λ r. ⌜ (r ≡ length (unreadLine (now (name .entry)) f)) × (r ≤ length (now (o .exit))) ⌝ }
+    ensures { λ _. ⌜ now (o .exit) ≡ sets (now (o .entry)) 0 (unreadLine (now (name .entry)) f) ⌝ }
+{
+    let p = put_name(o, name);
+    let q = put_fault(o, p, f);
+    o[q] = b'\n';
+    q + 1
 }

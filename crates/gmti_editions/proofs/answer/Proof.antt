@@ -1,55 +1,59 @@
--- `gmti_editions::answer` is safe and ends. The parts that are lent have the lengths that the callees bound.
+-- `gmti_editions::answer` meets its contract. A line that something is wrong with, and one with a packet.
 -- Assumes nothing.
 use native.Mathlib.Omega.{arith}
-use mathlib.Core.Path.{_≡_, sym}
+use mathlib.Core.Path.{_≡_, sym, _∙_}
+use mathlib.Core.List.{[], _∷_}
 use borrow.Author.Needs.{needs}
+use types.Run.{miss}
 use denote.Ref.{now}
 use lib.ListN.{length, take}
 use lib.Seq.{length-take-le}
+use Rattle.vectors.specs.declared.Fault.the-variants.{Nothing}
+use Rattle.lines.specs.Lines.{before}
+use Rattle.gmti_editions.proofs.Said.{fault-nothing, nothing-said, fault-said}
 use Rattle.gmti_editions.proofs.answer.Statement.{statement}
 use Rattle.gmti_editions.proofs.answer.Tie as tie
 
 -- the name ends within the line
-name-length : (c : tie.After-find) → length (take (c .find .result) (now (c .before .before .before .before .before .before .before .args .line))) ≡ c .find .result
-name-length c = length-take-le (c .find .result) (now (c .before .before .before .before .before .before .before .args .line)) (c .find .ensures .1 .1)
+named : (c : tie.After-find) → length (take (c .find .result) (now (c .before .before .before .before .before .before .before .args .line))) ≡ c .find .result
+named c = length-take-le (c .find .result) (now (c .before .before .before .before .before .before .before .args .line)) (c .find .ensures .1 .1)
+
+found : (c : tie.After-find) → c .find .result ≡ before 58 (now (c .before .before .before .before .before .before .before .args .line))
+found c = omega (arith, c .find .ensures .0)
+
+-- what is not in the first arm has a fault
+faulty : (c : tie.At-match-keys2) → c .before .fault .result ≡ Nothing → ⊥
+faulty c e = miss (1 ∷ 2 ∷ 3 ∷ 4 ∷ 5 ∷ []) 0 tt (rw e at (c .match .keys2))
 
 find-requires : tie.Need-find-requires
 find-requires c κs = search needs
 
-further-requires : tie.Need-further-requires
-further-requires c κs = search needs
+fault-requires : tie.Need-fault-requires
+fault-requires c κs = search needs
 
-sub-unhex : tie.Need-sub-unhex
-sub-unhex c = search needs
+enum-told : tie.Need-enum-told
+enum-told c = search needs
 
-part-unhex-start : tie.Need-part-unhex-start
-part-unhex-start c = search needs
+slice-aggregate-put-unread : tie.Need-slice-aggregate-put-unread
+slice-aggregate-put-unread c = sym (named (c .before .before .before .before))
 
-part-unhex-end : tie.Need-part-unhex-end
-part-unhex-end c = search needs
-
-unhex-requires : tie.Need-unhex-requires
-unhex-requires c κs = search needs
-
-slice-reshare-prefix-judge : tie.Need-slice-reshare-prefix-judge
-slice-reshare-prefix-judge c = search needs
-
-slice-aggregate-judge : tie.Need-slice-aggregate-judge
-slice-aggregate-judge c =
-    let u = c .before .before .before .unhex in
-    sym (length-take-le (u .result) (u .last .1 .0) (u .ensures .0 .1))
-
-judge-requires : tie.Need-judge-requires
-judge-requires c κs = search needs
-
-slice-aggregate-print-judged : tie.Need-slice-aggregate-print-judged
-slice-aggregate-print-judged c = sym (name-length (c .before .before .before .before .before .before .before .before .before .before .before .before .before .before .before .before .before .before))
-
-print-judged-requires : tie.Need-print-judged-requires
-print-judged-requires c κs = omega (arith, name-length (c .before .before .before .before .before .before .before .before .before .before .before .before .before .before .before .before .before .before .before), c .before .before .before .before .before .before .before .before .before .before .before .before .before .before .before .before .before .before .before .find .ensures .1 .1, c .before .before .before .before .before .before .before .before .before .before .before .before .before .before .before .before .before .before .before .before .before .before .before .before .before .before .pre .1 .1)
+put-unread-requires : tie.Need-put-unread-requires
+put-unread-requires c κs = omega (arith, named (c .before .before .before .before), c .before .before .before .before .find .ensures .1 .1, c .before .before .before .before .before .before .before .before .before .before .before .pre .1 .1)
 
 same-length : tie.Need-same-length
 same-length c = search needs
+
+returns : tie.Need-returns
+returns c =
+    let start = c .before .before .before .before .before .before .before .before .before .before .before .before .before .before in
+    let put = c .before .before .put-unread in
+    let said = fault-said (now (start .args .line)) (now (start .args .older)) (now (start .args .newer)) (now (start .args .buffer)) (c .before .before .before .before .before .before .fault .ensures) (found (c .before .before .before .before .before .before .before)) (faulty (c .before .before .before .before .before)) in
+    rw said (put .ensures)
+
+put-packet-requires : tie.Need-put-packet-requires
+put-packet-requires c κs =
+    let start = c .before .before .before .before .before .before .before .before .before .before .before .before .before .before .before in
+    ((found (c .before .before .before .before .before .before .before .before), fault-nothing (now (start .args .line)) (sym (c .before .before .before .before .before .before .before .fault .ensures) ∙ c .before .before .before .before .before .enum-told .given .1)), (start .pre .0, (start .pre .1 .0, start .pre .1 .1)))
 
 same-length-2 : tie.Need-same-length-2
 same-length-2 c = search needs
@@ -63,27 +67,31 @@ same-length-4 c = search needs
 same-length-5 : tie.Need-same-length-5
 same-length-5 c = search needs
 
-returns : tie.Need-returns
-returns c = search needs
+same-length-6 : tie.Need-same-length-6
+same-length-6 c = search needs
+
+returns-2 : tie.Need-returns-2
+returns-2 c =
+    let start = c .before .before .before .before .before .before .before .before .before .before .before .before .before .before .before .before .before .before .before .before .before .before .before .before .before .before in
+    let put = c .before .before .before .before .before .before .before .before .before .before .put-packet in
+    let said = nothing-said (now (start .args .line)) (now (start .args .older)) (now (start .args .newer)) (now (start .args .buffer)) (c .before .before .before .before .before .before .before .before .before .before .before .before .before .before .before .before .before .before .fault .ensures) (c .before .before .before .before .before .before .before .before .before .before .before .before .before .before .before .before .enum-told .given .1) in
+    rw said (put .ensures)
 
 pub answer-spec : {M : Type 1} → statement M
 answer-spec =
     tie.close
     (tie.spec
     find-requires
-    further-requires
-    sub-unhex
-    part-unhex-start
-    part-unhex-end
-    unhex-requires
-    slice-reshare-prefix-judge
-    slice-aggregate-judge
-    judge-requires
-    slice-aggregate-print-judged
-    print-judged-requires
+    fault-requires
+    enum-told
+    slice-aggregate-put-unread
+    put-unread-requires
     same-length
+    returns
+    put-packet-requires
     same-length-2
     same-length-3
     same-length-4
     same-length-5
-    returns)
+    same-length-6
+    returns-2)

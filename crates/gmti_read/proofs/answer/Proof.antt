@@ -1,20 +1,38 @@
--- `gmti_read::answer` meets its contract. The two ways of the test.
+-- `gmti_read::answer` meets its contract: what is printed is of the answer and the sheet that the reading gives.
 -- Assumes nothing.
+use native.Mathlib.Omega.{arith}
+use Prim.Native.Nat.{ℕ}
+use mathlib.Core.Path.{_≡_, ap, _∙_}
+use mathlib.Core.List.{List}
+use denote.Ref.{now}
+use lib.ListN.{length}
+use lib.Seq.{sets}
 use borrow.Author.Needs.{needs}
+use Rattle.gmti_read.specs.Printed.{printedOf}
 use Rattle.gmti_read.proofs.answer.Statement.{statement}
 use Rattle.gmti_read.proofs.answer.Tie as tie
 
 read-requires : tie.Need-read-requires
 read-requires c κs = search needs
 
+print-requires : tie.Need-print-requires
+print-requires c κs = search needs
+
 same-length : tie.Need-same-length
 same-length c = search needs
 
-returns : tie.Need-returns
-returns c = rw (c .before .before .before .before .if1 .taken) (c .before .before .read .ensures)
+same-length-2 : tie.Need-same-length-2
+same-length-2 c = search needs
 
-returns-2 : tie.Need-returns-2
-returns-2 c = rw (c .if1 .left)
+returns : tie.Need-returns
+returns c =
+    let print = c .before .before .print in
+    let read = c .before .before .before .before .before .before .before .read in
+    let start = c .before .before .before .before .before .before .before .before .before .before .before .before in
+    let e = ap printedOf (read .ensures) in (
+      (print .ensures .0 ∙ ap (λ (l : List ℕ). length l) e, omega (arith, print .ensures .1 .1, print .kept .1 .1 .0, read .kept .1 .1 .0, start .pre)),
+      print .ensures .1 .0 ∙ ap (λ (l : List ℕ). sets (now (start .args .out)) 0 l) e,
+    )
 
 pub answer-spec : {M : Type 1} → statement M
-answer-spec = tie.close (tie.spec read-requires same-length returns returns-2)
+answer-spec = tie.close (tie.spec read-requires print-requires same-length same-length-2 returns)

@@ -1,27 +1,79 @@
--- `gmti_trials::answer` is safe and ends. The parts that are lent have the lengths that parse and the callees bound.
+-- `gmti_trials::answer` is safe and ends within its buffer. The parts that are lent have the lengths that parse and the callees bound.
 -- Assumes nothing.
 use native.Mathlib.Omega.{arith}
-use Prim.Native.Nat.{_≤_}
-use mathlib.Core.Path.{_≡_, sym}
+use Prim.Native.Nat.{_-_, _≤_}
+use mathlib.Core.Path.{_≡_, sym, _∙_}
 use mathlib.Core.List.{_++_}
-use denote.Ref.{now}
-use lib.ListN.{length, take, drop}
-use lib.Seq.{length-take-le}
-use Rattle.gmti_trials.proofs.Lent.{length-back}
 use borrow.Author.Needs.{needs}
+use denote.Ref.{now}
+use lib.ListN.{length, take, drop, length-take, length-drop}
+use lib.Seq.{length-take-le, length-front}
+use Rattle.gmti_trials.proofs.Lent.{length-back}
 use Rattle.gmti_trials.proofs.answer.Statement.{statement}
 use Rattle.gmti_trials.proofs.answer.Tie as tie
 
+-- the name ends within the line
+named : (c : tie.After-find) → length (take (c .find .result) (now (c .before .before .before .before .before .args .line))) ≡ c .find .result
+named c = length-take-le (c .find .result) (now (c .before .before .before .before .before .args .line)) (c .find .ensures .1 .1)
+
 -- as much of the sheet is lent as there is
-lent-fits : (c : tie.After-fill) → c .before .before .before .before .before .before .before .parse .result .lent ≤ length (c .fill .last .0)
-lent-fits c = omega (arith, c .fill .kept .0, c .before .before .before .before .before .before .before .parse .ensures .2, c .before .before .before .before .before .before .before .before .before .before .before .before .pre)
+lent-fits : (c : tie.After-fill) → c .before .before .before .before .before .before .before .before .before .before .before .before .before .parse .result .lent ≤ length (c .fill .last .0)
+lent-fits c = omega (arith, c .fill .kept .0, c .before .before .before .before .before .before .before .before .before .before .before .before .before .parse .ensures .0, c .before .before .before .before .before .before .before .before .before .before .before .before .before .before .before .before .before .before .before .pre .1 .0)
 
 -- and it comes back as long
-lent-is : (c : tie.After-called) → length (take (c .before .before .before .before .before .before .before .before .before .before .before .before .parse .result .lent) (c .called .last .1 .1 .1 .0 ++ drop (c .before .before .before .before .before .before .before .before .before .before .before .before .parse .result .lent) (c .before .before .before .before .before .fill .last .0))) ≡ c .before .before .before .before .before .before .before .before .before .before .before .before .parse .result .lent
-lent-is c = length-back (c .called .last .1 .1 .1 .0) (c .before .before .before .before .before .fill .last .0) (c .before .before .before .before .before .before .before .before .before .before .before .before .parse .result .lent) (lent-fits (c .before .before .before .before .before)) (c .called .kept .1 .1 .1 .0)
+lent-within : (c : tie.After-called) → c .before .before .before .before .before .before .before .before .before .before .before .before .before .before .before .before .before .before .parse .result .lent ≤ length (c .called .last .1 .1 .1 .0 ++ drop (c .before .before .before .before .before .before .before .before .before .before .before .before .before .before .before .before .before .before .parse .result .lent) (c .before .before .before .before .before .fill .last .0))
+lent-within c = omega (arith, length-front (c .before .before .before .before .before .fill .last .0) (c .called .last .1 .1 .1 .0) (c .before .before .before .before .before .before .before .before .before .before .before .before .before .before .before .before .before .before .parse .result .lent) (c .called .kept .1 .1 .1 .0), lent-fits (c .before .before .before .before .before))
+
+lent-is : (c : tie.After-called) → length (take (c .before .before .before .before .before .before .before .before .before .before .before .before .before .before .before .before .before .before .parse .result .lent) (c .called .last .1 .1 .1 .0 ++ drop (c .before .before .before .before .before .before .before .before .before .before .before .before .before .before .before .before .before .before .parse .result .lent) (c .before .before .before .before .before .fill .last .0))) ≡ c .before .before .before .before .before .before .before .before .before .before .before .before .before .before .before .before .before .before .parse .result .lent
+lent-is c = length-back (c .called .last .1 .1 .1 .0) (c .before .before .before .before .before .fill .last .0) (c .before .before .before .before .before .before .before .before .before .before .before .before .before .before .before .before .before .before .parse .result .lent) (lent-fits (c .before .before .before .before .before)) (c .called .kept .1 .1 .1 .0)
+
+find-requires : tie.Need-find-requires
+find-requires c κs = search needs
 
 parse-requires : tie.Need-parse-requires
 parse-requires c κs = search needs
+
+enum-told : tie.Need-enum-told
+enum-told c = search needs
+
+slice-aggregate-put-unread : tie.Need-slice-aggregate-put-unread
+slice-aggregate-put-unread c = sym (named (c .before .before .before .before))
+
+put-unread-requires : tie.Need-put-unread-requires
+put-unread-requires c κs = omega (arith, named (c .before .before .before .before), c .before .before .before .before .find .ensures .1 .1, c .before .before .before .before .before .before .before .before .before .pre .1 .1)
+
+same-length : tie.Need-same-length
+same-length c = search needs
+
+returns : tie.Need-returns
+returns c = search needs
+
+sub-hex-fault : tie.Need-sub-hex-fault
+sub-hex-fault c = search needs
+
+part-hex-fault-start : tie.Need-part-hex-fault-start
+part-hex-fault-start c = search needs
+
+part-hex-fault-end : tie.Need-part-hex-fault-end
+part-hex-fault-end c = search needs
+
+hex-fault-requires : tie.Need-hex-fault-requires
+hex-fault-requires c κs = search needs
+
+enum-told-2 : tie.Need-enum-told-2
+enum-told-2 c = search needs
+
+slice-aggregate-put-unread-2 : tie.Need-slice-aggregate-put-unread-2
+slice-aggregate-put-unread-2 c = sym (named (c .before .before .before .before .before .before .before .before))
+
+put-unread-requires-2 : tie.Need-put-unread-requires-2
+put-unread-requires-2 c κs = omega (arith, named (c .before .before .before .before .before .before .before .before), c .before .before .before .before .before .before .before .before .find .ensures .1 .1, c .before .before .before .before .before .before .before .before .before .before .before .before .before .pre .1 .1)
+
+same-length-2 : tie.Need-same-length-2
+same-length-2 c = search needs
+
+returns-2 : tie.Need-returns-2
+returns-2 c = search needs
 
 sub-unhex : tie.Need-sub-unhex
 sub-unhex c = search needs
@@ -33,7 +85,10 @@ part-unhex-end : tie.Need-part-unhex-end
 part-unhex-end c = search needs
 
 unhex-requires : tie.Need-unhex-requires
-unhex-requires c κs = search needs
+unhex-requires c κs =
+    let line = now (c .before .before .before .before .before .before .before .before .before .before .before .before .before .before .args .line) in
+    let hex = c .before .before .before .before .before .before .before .before .parse .result .hex in
+    (sym (c .before .before .before .before .hex-fault .ensures) ∙ c .before .before .enum-told2 .given .1, omega (arith, length-take (length line - hex) (drop hex line), length-drop hex line, c .before .before .before .before .before .before .before .before .before .before .before .before .before .before .pre .0))
 
 fill-requires : tie.Need-fill-requires
 fill-requires c κs = search needs
@@ -42,55 +97,61 @@ slice-reshare-prefix-called : tie.Need-slice-reshare-prefix-called
 slice-reshare-prefix-called c = search needs
 
 slice-aggregate-called : tie.Need-slice-aggregate-called
-slice-aggregate-called c = sym (length-take-le _ (c .before .before .before .before .before .before .before .unhex .last .1 .0) (c .before .before .before .before .before .before .before .unhex .ensures .0 .1))
+slice-aggregate-called c = let u = c .before .before .before .before .before .before .before .unhex in sym (length-take-le (u .result) (u .last .1 .0) (u .ensures .0 .1))
 
 slice-relend-prefix-called : tie.Need-slice-relend-prefix-called
 slice-relend-prefix-called c = search needs
 
 slice-aggregate-called-2 : tie.Need-slice-aggregate-called-2
-slice-aggregate-called-2 c = sym (length-take-le _ (c .before .before .before .before .fill .last .0) (lent-fits (c .before .before .before .before)))
+slice-aggregate-called-2 c = sym (length-take-le (c .before .before .before .before .before .before .before .before .before .before .before .before .before .before .before .before .before .parse .result .lent) (c .before .before .before .before .fill .last .0) (lent-fits (c .before .before .before .before)))
 
 called-requires : tie.Need-called-requires
 called-requires c κs = search needs
 
 slice-aggregate-put-line : tie.Need-slice-aggregate-put-line
-slice-aggregate-put-line c = sym (length-take-le (c .before .before .before .before .before .before .before .before .before .before .before .before .before .before .before .before .parse .result .name) (now (c .before .before .before .before .before .before .before .before .before .before .before .before .before .before .before .before .before .before .before .before .before .args .line)) (c .before .before .before .before .before .before .before .before .before .before .before .before .before .before .before .before .parse .ensures .0))
+slice-aggregate-put-line c = sym (named (c .before .before .before .before .before .before .before .before .before .before .before .before .before .before .before .before .before .before .before .before .before .before .before))
 
 slice-reshare-prefix-put-line : tie.Need-slice-reshare-prefix-put-line
-slice-reshare-prefix-put-line c = search needs
+slice-reshare-prefix-put-line c = omega (arith, lent-within (c .before .before .before .before))
 
 slice-aggregate-put-line-2 : tie.Need-slice-aggregate-put-line-2
 slice-aggregate-put-line-2 c = sym (lent-is (c .before .before .before .before .before))
 
 put-line-requires : tie.Need-put-line-requires
-put-line-requires c κs = omega (arith, lent-is (c .before .before .before .before .before), length-take-le (c .before .before .before .before .before .before .before .before .before .before .before .before .before .before .before .before .before .parse .result .name) (now (c .before .before .before .before .before .before .before .before .before .before .before .before .before .before .before .before .before .before .before .before .before .before .args .line)) (c .before .before .before .before .before .before .before .before .before .before .before .before .before .before .before .before .before .parse .ensures .0), c .before .before .before .before .before .before .before .before .before .before .before .before .before .before .before .before .before .parse .ensures .0, c .before .before .before .before .before .before .before .before .before .before .before .before .before .before .before .before .before .parse .ensures .2, c .before .before .before .before .before .before .before .before .before .before .before .before .before .before .before .before .before .before .before .before .before .before .pre)
-
-slice-reshare-prefix-write-all : tie.Need-slice-reshare-prefix-write-all
-slice-reshare-prefix-write-all c = search needs
-
-slice-aggregate-write-all : tie.Need-slice-aggregate-write-all
-slice-aggregate-write-all c = sym (length-take-le (c .before .before .before .put-line .result) (c .before .before .before .put-line .last .0) (c .before .before .before .put-line .ensures .0 .1))
-
-write-all-requires : tie.Need-write-all-requires
-write-all-requires c κs = search needs
-
-same-length : tie.Need-same-length
-same-length c = search needs
-
-same-length-2 : tie.Need-same-length-2
-same-length-2 c = search needs
+put-line-requires c κs = omega (arith, lent-is (c .before .before .before .before .before), named (c .before .before .before .before .before .before .before .before .before .before .before .before .before .before .before .before .before .before .before .before .before .before .before .before), c .before .before .before .before .before .before .before .before .before .before .before .before .before .before .before .before .before .before .before .before .before .before .before .before .find .ensures .1 .1, c .before .before .before .before .before .before .before .before .before .before .before .before .before .before .before .before .before .before .before .before .before .before .before .parse .ensures .0, c .before .before .before .before .before .before .before .before .before .before .before .before .before .before .before .before .before .before .before .before .before .before .before .before .before .before .before .before .before .pre .1 .1)
 
 same-length-3 : tie.Need-same-length-3
 same-length-3 c = search needs
 
-returns : tie.Need-returns
-returns c = search needs
+same-length-4 : tie.Need-same-length-4
+same-length-4 c = search needs
+
+same-length-5 : tie.Need-same-length-5
+same-length-5 c = search needs
+
+returns-3 : tie.Need-returns-3
+returns-3 c = search needs
 
 pub answer-spec : {M : Type 1} → statement M
 answer-spec =
     tie.close
     (tie.spec
+    find-requires
     parse-requires
+    enum-told
+    slice-aggregate-put-unread
+    put-unread-requires
+    same-length
+    returns
+    sub-hex-fault
+    part-hex-fault-start
+    part-hex-fault-end
+    hex-fault-requires
+    enum-told-2
+    slice-aggregate-put-unread-2
+    put-unread-requires-2
+    same-length-2
+    returns-2
     sub-unhex
     part-unhex-start
     part-unhex-end
@@ -105,10 +166,7 @@ answer-spec =
     slice-reshare-prefix-put-line
     slice-aggregate-put-line-2
     put-line-requires
-    slice-reshare-prefix-write-all
-    slice-aggregate-write-all
-    write-all-requires
-    same-length
-    same-length-2
     same-length-3
-    returns)
+    same-length-4
+    same-length-5
+    returns-3)

@@ -1,23 +1,31 @@
--- `vectors::digit_value` meets its contract. The ranges of bytes, each by its law.
+-- `vectors::digit_value` meets its contract. A digit, which is in its range, and a byte that is none.
 -- Assumes nothing.
 use native.Mathlib.Omega.{arith}
-use mathlib.Core.Path.{sym}
-use Rattle.vectors.proofs.Spellings.{digit-in, digit-low, digit-high}
+use mathlib.Core.Path.{refl, sym, _∙_}
 use borrow.Author.Needs.{needs}
+use Rattle.vectors.specs.Vectors.{digitValue}
+use Rattle.vectors.proofs.Spellings.{digit-range}
 use Rattle.vectors.proofs.digit_value.Statement.{statement}
 use Rattle.vectors.proofs.digit_value.Tie as tie
+
+is-digit-requires : tie.Need-is-digit-requires
+is-digit-requires c κs = search needs
+
+sub-result : tie.Need-sub-result
+sub-result c = digit-range (c .before .before .args .c) (sym (c .before .is-digit .ensures) ∙ c .if1 .taken) .0
 
 cast-result : tie.Need-cast-result
 cast-result c = search needs
 
 returns : tie.Need-returns
-returns c = (sym (digit-low (c .before .args .c) (omega arith)), omega arith)
+unfolding digitValue
+returns c =
+    let e = sym (c .before .is-digit .ensures) ∙ c .if1 .taken in
+    rw e (refl, omega (arith, digit-range (c .before .before .args .c) e .1))
 
 returns-2 : tie.Need-returns-2
-returns-2 c = (sym (digit-in (c .before .before .args .c) (omega arith) (omega arith)), omega arith)
-
-returns-3 : tie.Need-returns-3
-returns-3 c = (sym (digit-high (c .before .before .args .c) (omega arith)), omega arith)
+unfolding digitValue
+returns-2 c = rw (sym (c .before .is-digit .ensures) ∙ c .if1 .left) (refl, omega arith)
 
 pub digit-value-spec : {M : Type 1} → statement M
-digit-value-spec = tie.close (tie.spec cast-result returns returns-2 returns-3)
+digit-value-spec = tie.close (tie.spec is-digit-requires sub-result cast-result returns returns-2)

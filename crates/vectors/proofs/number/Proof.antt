@@ -12,13 +12,13 @@ use Rattle.vectors.proofs.number.Statement.{statement}
 use Rattle.vectors.proofs.number.Tie as tie
 
 abbrev Inv-loop : tie.InvT-loop
-Inv-loop s n₀ i₀ i-end n i = (i ≤ length s) × (spelt (drop i s) n ≡ spelt s 0)
+Inv-loop s n₀ i₀ i-end n i = (i ≤ length s) × (n ≤ 4294967296) × (spelt (drop i s) n ≡ spelt s 0)
 
 abbrev μ-loop : tie.MeasureT-loop
 μ-loop s n₀ i₀ i-end n i = length s - i
 
 loop-holds : tie.Need-loop-holds Inv-loop μ-loop
-loop-holds c = (omega arith, refl)
+loop-holds c = (omega arith, omega arith, refl)
 
 shared-slice-read-with-digit : tie.Need-shared-slice-read-with-digit Inv-loop μ-loop
 shared-slice-read-with-digit c = omega arith
@@ -36,10 +36,10 @@ loop-again : tie.Need-loop-again Inv-loop μ-loop
 loop-again c =
     let s = now (c .before .before .before .before .before .args .s) in
     let l = c .before .before .before .loop in
-    (omega arith, ap (spelt (drop (l .i + 1) s)) (c .with-digit .ensures) ∙ spelt-turn s (l .i) (l .n) (omega arith) ∙ l .inv .1)
+    (omega arith, omega arith, ap (spelt (drop (l .i + 1) s)) (c .with-digit .ensures .0) ∙ spelt-turn s (l .i) (l .n) (omega arith) ∙ l .inv .2)
 
 returns : tie.Need-returns Inv-loop μ-loop
-returns c = let l = c .before .loop in sym (spelt-end (now (c .before .before .before .args .s)) (l .i) (l .n) (omega arith)) ∙ l .inv .1
+returns c = let l = c .before .loop in sym (spelt-end (now (c .before .before .before .args .s)) (l .i) (l .n) (omega arith)) ∙ l .inv .2
 
 pub number-spec : {M : Type 1} → statement M
 number-spec =

@@ -2,12 +2,11 @@
 -- Assumes nothing.
 use native.Mathlib.Omega.{arith}
 use native.Mathlib.Nat.{zero-add}
-use Prim.Native.Nat.{ℕ, _+_, _*_, _≤_}
+use Prim.Native.Nat.{ℕ, _+_, _<_}
 use mathlib.Core.Path.{_≡_, _∙_}
-use mathlib.Core.List.{[], _∷_, _++_}
 use denote.Ref.{now}
-use lib.ListN.{length, length-append, length-set}
-use Rattle.vectors.proofs.Spellings.{hex-laid, line-laid}
+use lib.ListN.{length, length-set}
+use Rattle.vectors.proofs.Spellings.{label-laid, hex-laid, line-laid}
 use borrow.Author.Needs.{needs}
 use Rattle.vectors.proofs.put_line.Statement.{statement}
 use Rattle.vectors.proofs.put_line.Tie as tie
@@ -21,8 +20,11 @@ kept c =
     ∙ c .before .before .before .before .before .before .before .before .put-name .kept .0
 
 -- and they end within it
-ends : (c : tie.After-put-hex) → c .put-hex .result ≤ length (now (c .before .before .before .before .before .before .before .before .before .before .before .before .before .args .name)) + 2 * length (now (c .before .before .before .before .before .before .before .before .before .before .before .before .before .args .sheet)) + 89
-ends c = omega (arith, c .put-hex .ensures .0, c .before .before .before .before .put-answer .ensures .0 .1, c .before .before .before .before .before .before .before .before .put-name .ensures .0)
+room : (c : tie.After-put-hex) → c .put-hex .result < length (c .put-hex .last .0)
+room c =
+    let n = c .before .before .before .before .before .before .before .before .put-name .ensures in
+    let e = c .before .before .before .before .put-answer .ensures in
+    omega (arith, kept c, c .put-hex .ensures .0, e .0 .1, n .0, c .before .before .before .before .before .before .before .before .before .before .before .before .before .pre)
 
 put-name-requires : tie.Need-put-name-requires
 put-name-requires c κs = search needs
@@ -37,10 +39,13 @@ add-put-hex : tie.Need-add-put-hex
 add-put-hex c = search needs
 
 put-hex-requires : tie.Need-put-hex-requires
-put-hex-requires c κs = rw (length-set, c .before .before .before .put-answer .kept .0, c .before .before .before .before .before .before .before .put-name .kept .0) (omega (arith, c .before .before .before .put-answer .ensures .0 .1, c .before .before .before .before .before .before .before .put-name .ensures .0, c .before .before .before .before .before .before .before .before .before .before .before .before .pre))
+put-hex-requires c κs =
+    let n = c .before .before .before .before .before .before .before .put-name in
+    let e = c .before .before .before .put-answer in
+    rw (length-set, e .kept .0, n .kept .0) (omega (arith, e .ensures .0 .1, n .ensures .0, c .before .before .before .before .before .before .before .before .before .before .before .before .pre))
 
 slice-write-o-2 : tie.Need-slice-write-o-2
-slice-write-o-2 c = omega (arith, kept (c .before .before), ends (c .before .before), c .before .before .before .before .before .before .before .before .before .before .before .before .before .before .before .pre)
+slice-write-o-2 c = room (c .before .before)
 
 add-result : tie.Need-add-result
 add-result c = search needs
@@ -54,9 +59,8 @@ returns c =
     let n = c .before .before .before .before .before .before .before .before .before .before .put-name .ensures in
     let e = c .before .before .before .before .before .before .put-answer .ensures in
     let f = c .before .before .put-hex .ensures in
-    let p : c .before .before .before .before .before .before .before .before .before .before .put-name .result ≡ 0 + length (now (a .name) ++ (58 ∷ 32 ∷ [])) = omega (arith, n .0, length-append (now (a .name)) (58 ∷ 32 ∷ [])) in
-    let h = line-laid (now (a .name)) (now (a .o)) (now (a .sheet)) (a .a) (p, n .1) (e .0 .0, e .1) (hex-laid (now (a .sheet)) _ (c .before .before .before .before .before .before .put-answer .result + 1) (f .0) (f .1)) in
-    ((h .0 ∙ zero-add _, rw length-set (omega (arith, kept (c .before .before), ends (c .before .before), c .before .before .before .before .before .before .before .before .before .before .before .before .before .before .before .pre))), h .1)
+    let h = line-laid (now (a .name)) (now (a .o)) (now (a .sheet)) (a .a) (label-laid (now (a .name)) (now (a .o)) (n .0) (n .1)) (e .0 .0, e .1) (hex-laid (now (a .sheet)) _ (c .before .before .before .before .before .before .put-answer .result + 1) (f .0) (f .1)) in
+    ((h .0 ∙ zero-add _, rw length-set (omega (arith, room (c .before .before)))), h .1)
 
 pub put-line-spec : {M : Type 1} → statement M
 put-line-spec =

@@ -1,13 +1,13 @@
 -- `vectors::unhex` meets its contract. The loop keeps that the pairs left, stored behind those so far, give the whole.
 -- Assumes nothing.
 use mathlib.Core.Path.{_≡_, refl, ap₂}
-use Prim.Native.Nat.{ℕ, _≤_, _-_, _+_, _*_, _/_}
+use Prim.Native.Nat.{ℕ, _≤_, _-_, _+_, _*_, _/_, _<_}
 use native.Mathlib.Omega.{arith}
 use borrow.Author.Needs.{needs}
 use denote.Ref.{now}
 use lib.ListN.{length}
 use Rattle.vectors.specs.Vectors.{unhexed}
-use Rattle.vectors.proofs.Spellings.{Spelt, pairs-start, pairs-turn, pairs-end}
+use Rattle.vectors.proofs.Spellings.{nibble-below, Spelt, pairs-start, pairs-turn, pairs-end}
 use Rattle.vectors.proofs.unhex.Statement.{statement}
 use Rattle.vectors.proofs.unhex.Tie as tie
 
@@ -29,8 +29,14 @@ shared-slice-read-nibble c = omega arith
 nibble-requires : tie.Need-nibble-requires Inv-loop μ-loop
 nibble-requires c κs = search needs
 
+-- the first digit of a pair is below 16
+first-digit : (c : tie.After-nibble Inv-loop μ-loop) → c .nibble .result < 16
+first-digit c =
+    let a = c .before .before .before .before .before .before in
+    omega (arith, nibble-below (now (a .args .s)) (2 * c .before .before .before .loop .i) (a .pre .0) (omega arith))
+
 mul-o : tie.Need-mul-o Inv-loop μ-loop
-mul-o c = omega arith
+mul-o c = omega (arith, first-digit c)
 
 mul-nibble-2 : tie.Need-mul-nibble-2 Inv-loop μ-loop
 mul-nibble-2 c = omega arith
@@ -45,7 +51,9 @@ nibble-requires-2 : tie.Need-nibble-requires-2 Inv-loop μ-loop
 nibble-requires-2 c κs = search needs
 
 add-o : tie.Need-add-o Inv-loop μ-loop
-add-o c = omega arith
+add-o c =
+    let a = c .before .before .before .before .before .before .before .before in
+    omega (arith, first-digit (c .before .before), nibble-below (now (a .args .s)) (2 * c .before .before .before .before .before .loop .i + 1) (a .pre .0) (omega arith))
 
 slice-write-o : tie.Need-slice-write-o Inv-loop μ-loop
 slice-write-o c = omega arith
@@ -70,7 +78,8 @@ same-length c = c .before .loop .inv .2 .same
 
 returns : tie.Need-returns Inv-loop μ-loop
 unfolding unhexed
-returns c = let a = c .before .before .before .before .args in
+returns c =
+    let a = c .before .before .before .before .args in
     let l = c .before .loop in
     ((refl, omega (arith, l .inv .2 .same)), pairs-end (now (a .s)) (now (a .o)) (l .o) _ (l .i) (omega arith) (l .inv .2))
 

@@ -1,8 +1,8 @@
 -- `vectors::with_digit` meets its contract. The lesser of the number and the bound.
 -- Assumes nothing.
 use native.Mathlib.Omega.{arith}
-use Rattle.vectors.specs.Vectors.{withDigit}
 use borrow.Author.Needs.{needs}
+use Rattle.vectors.specs.Vectors.{withDigit}
 use Rattle.vectors.proofs.with_digit.Statement.{statement}
 use Rattle.vectors.proofs.with_digit.Tie as tie
 
@@ -15,9 +15,6 @@ digit-value-requires c κs = search needs
 add-m : tie.Need-add-m
 add-m c = search needs
 
-cast-result : tie.Need-cast-result
-cast-result c = search needs
-
 returns : tie.Need-returns
 unfolding withDigit
 returns c = omega arith
@@ -27,5 +24,4 @@ unfolding withDigit
 returns-2 c = omega arith
 
 pub with-digit-spec : {M : Type 1} → statement M
-with-digit-spec =
-    tie.close (tie.spec mul-m digit-value-requires add-m cast-result returns returns-2)
+with-digit-spec = tie.close (tie.spec mul-m digit-value-requires add-m returns returns-2)

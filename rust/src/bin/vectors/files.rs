@@ -1,13 +1,14 @@
 //! The files of the programs: lines of vectors, and the sample packets.
 use crate::editions::Editions;
+use crate::lines;
 use crate::parts::{every_kind, packet, trial};
 use crate::trials::{Trial, Trials, LENT};
 use crate::verdict::{verdict, Implementation, INDEPENDENT};
 use gmti::generator::records::{sheet_of, split};
 use std::fmt::Write;
 
-/// A program reads no more than this, and `gmti_trials` lends no more than that.
-pub const MOST_INPUT: usize = 262_144;
+/// A program reads no longer line than this, and `gmti_trials` lends no more than that.
+pub const LONGEST_LINE: usize = 262_143;
 pub const MOST_LENT: usize = 8192;
 
 /// A file in the folder crates: its path and its content.
@@ -20,9 +21,21 @@ pub fn hex(bytes: &[u8]) -> String {
     })
 }
 
-fn unhex(text: &str) -> Option<Vec<u8>> {
-    let digits = text.as_bytes().chunks(2);
-    digits.map(|two| u8::from_str_radix(std::str::from_utf8(two).ok()?, 16).ok()).collect()
+/// The bytes that hex digits spell, or the word for what is wrong with them.
+fn unhex(text: &str) -> Result<Vec<u8>, &'static str> {
+    let digits: Option<Vec<u32>> = text.chars().map(|c| c.to_digit(16)).collect();
+    let digits = digits.ok_or("digit")?;
+    if digits.len() % 2 == 1 {
+        return Err("half");
+    }
+    Ok(digits.chunks(2).map(|two| (two[0] * 16 + two[1]) as u8).collect())
+}
+
+/// The number that digits spell, if it is at most this, or the word for what is wrong with it.
+fn number(text: &str, most: usize) -> Result<usize, &'static str> {
+    let is_number = !text.is_empty() && text.bytes().all(|c| c.is_ascii_digit());
+    let value = if is_number { text.parse().ok() } else { None };
+    value.filter(|value| *value <= most).ok_or("number")
 }
 
 /// `NAME: E LENT HEX`, with w in the place of the edition for the writer.
@@ -43,13 +56,14 @@ pub fn all(trials: &Trials, editions: &Editions) -> Vec<File> {
     let answers: String = trials.trials.iter().map(answer_line).collect();
     let packets: String = editions.packets.iter().map(|(name, packet)| format!("{name}: {}\n", hex(packet))).collect();
     let verdicts: String = editions.packets.iter().map(|(name, packet)| format!("{name}: {}\n", verdict(INDEPENDENT, packet))).collect();
+    let (other_trials, other_editions) = (lines::trials(), lines::editions());
     let whole = packet(3, &every_kind());
     let sheet = sheet_of(3, &whole).unwrap_or_default();
     vec![
-        ("gmti_trials/stdin", given.into_bytes()),
-        ("gmti_trials/stdout", answers.into_bytes()),
-        ("gmti_editions/stdin", packets.into_bytes()),
-        ("gmti_editions/stdout", verdicts.into_bytes()),
+        ("gmti_trials/stdin", (given + &other_trials.given()).into_bytes()),
+        ("gmti_trials/stdout", (answers + &other_trials.answers()).into_bytes()),
+        ("gmti_editions/stdin", (packets + &other_editions.given()).into_bytes()),
+        ("gmti_editions/stdout", (verdicts + &other_editions.answers()).into_bytes()),
         ("gmti_read/stdin", trial()),
         ("gmti_read/stdout", printed(&trial()).into_bytes()),
         ("gmti_sheet/args", b"3\n".to_vec()),
@@ -71,21 +85,28 @@ fn printed(packet: &[u8]) -> String {
     lines
 }
 
-/// The line with which an implementation answers a line of `gmti_trials`; none where it is not one.
-pub fn answer_trial(by: Implementation, line: &str) -> Option<String> {
-    let (name, rest) = line.split_once(": ")?;
-    let mut words = rest.splitn(3, ' ');
-    let (edition, lent, given) = (words.next()?, words.next()?.parse().ok()?, unhex(words.next()?)?);
-    let mut memory = vec![LENT; lent];
-    let answer = match edition {
-        "w" => (by.write)(&given, &mut memory),
-        _ => (by.read)(edition.parse().ok()?, &given, &mut memory),
-    };
-    Some(format!("{name}: {answer} {}", hex(&memory)))
+/// A line's answer, under the line's name; where the line has not the program's form, the word for what is wrong with it.
+fn named(line: &str, answer: impl Fn(&str) -> Result<String, &'static str>) -> String {
+    let name = line.split(':').next().unwrap_or_default();
+    let rest = line[name.len()..].strip_prefix(": ").ok_or("form");
+    let answer = rest.and_then(answer).unwrap_or_else(|word| format!("unread {word}"));
+    format!("{name}: {answer}")
+}
+
+/// The line with which an implementation answers a line of `gmti_trials`.
+pub fn answer_trial(by: Implementation, line: &str) -> String {
+    named(line, |rest| {
+        let words: Vec<&str> = rest.splitn(3, ' ').collect();
+        let [edition, lent, given] = words[..] else { return Err("form") };
+        let (is_writer, lent) = (edition == "w", number(lent, MOST_LENT));
+        let edition = if is_writer { 0 } else { number(edition, u32::MAX as usize)? as u32 };
+        let (mut memory, given) = (vec![LENT; lent?], unhex(given)?);
+        let answer = if is_writer { (by.write)(&given, &mut memory) } else { (by.read)(edition, &given, &mut memory) };
+        Ok(format!("{answer} {}", hex(&memory)))
+    })
 }
 
 /// As above, for a line of `gmti_editions`.
-pub fn answer_editions(by: Implementation, line: &str) -> Option<String> {
-    let (name, rest) = line.split_once(": ")?;
-    Some(format!("{name}: {}", verdict(by, &unhex(rest)?)))
+pub fn answer_editions(by: Implementation, line: &str) -> String {
+    named(line, |rest| Ok(verdict(by, &unhex(rest)?)))
 }

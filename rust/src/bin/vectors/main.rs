@@ -8,6 +8,7 @@ mod dwells;
 mod editions;
 mod files;
 mod heads;
+mod lines;
 mod newer;
 mod order;
 mod parts;
@@ -105,13 +106,13 @@ fn write(root: &Path) -> Vec<String> {
         list(&mut trials);
     }
     let editions = editions::list();
-    let mut faults = [&trials.faults[..], &editions.faults].concat();
+    let mut faults = [&trials.faults[..], &editions.faults, &lines::trials().faults, &lines::editions().faults].concat();
     faults.extend(untried(&trials));
     faults
         .extend(trials.trials.iter().filter(|trial| trial.lent > files::MOST_LENT).map(|trial| format!("{}: lends too much", trial.name)));
     let files = files::all(&trials, &editions);
-    let is_long = |name: &str, content: &[u8]| name.ends_with("stdin") && content.len() > files::MOST_INPUT;
-    faults.extend(files.iter().filter(|(name, content)| is_long(name, content)).map(|(name, _)| format!("{name}: too long")));
+    let is_long = |content: &[u8]| content.split(|byte| *byte == b'\n').any(|line| line.len() > files::LONGEST_LINE);
+    faults.extend(files.iter().filter(|(_, content)| is_long(content)).map(|(name, _)| format!("{name}: too long a line")));
     if !faults.is_empty() {
         return faults;
     }
@@ -154,7 +155,7 @@ fn untried(trials: &Trials) -> Vec<String> {
 }
 
 /// What one implementation answers to a line.
-type Answering = fn(Implementation, &str) -> Option<String>;
+type Answering = fn(Implementation, &str) -> String;
 
 /// Holds both implementations to the answers that stand in the folder.
 fn check(root: &Path) -> Vec<String> {
@@ -172,17 +173,20 @@ fn check(root: &Path) -> Vec<String> {
 
 fn check_lines(name: &str, answer: Answering, given: &str, answers: &str) -> Vec<String> {
     let mut faults = Vec::new();
-    if given.lines().count() != answers.lines().count() {
+    // A carriage return is a character of its line, which `lines` would take off.
+    let given: Vec<&str> = given.split_terminator('\n').collect();
+    let answers: Vec<&str> = answers.split_terminator('\n').collect();
+    if given.len() != answers.len() {
         faults.push(format!("{name}: stdin and stdout have different numbers of lines"));
     }
     for by in [INDEPENDENT, VERIFIED] {
-        for (line, due) in given.lines().zip(answers.lines()) {
-            let found = answer(by, line).unwrap_or_default();
-            if found != due {
+        for (line, due) in given.iter().zip(&answers) {
+            let found = answer(by, line);
+            if found != *due {
                 faults.push(format!("{name}, {}: {found} where {due} is due", by.name));
             }
         }
-        println!("{name}: {} lines, {}", given.lines().count(), by.name);
+        println!("{name}: {} lines, {}", given.len(), by.name);
     }
     faults
 }

@@ -1,0 +1,61 @@
+-- `gmti_trials::run` is safe and ends. What is held lies within the input; its turns fall.
+-- Assumes nothing.
+use native.Mathlib.Omega.{arith}
+use mathlib.Core.Path.{refl}
+use borrow.Author.Needs.{needs}
+use Rattle.lines.specs.Lines.{HeldWithin}
+use Rattle.gmti_trials.proofs.run.Statement.{statement}
+use Rattle.gmti_trials.proofs.run.Tie as tie
+
+abbrev Inv-loop : tie.InvT-loop
+Inv-loop input₀ packet₀ sheet₀ out₀ held₀ goes-on₀ turns₀ t10 input packet sheet out held goes-on turns = HeldWithin 262144 held
+
+abbrev μ-loop : tie.MeasureT-loop
+μ-loop input₀ packet₀ sheet₀ out₀ held₀ goes-on₀ turns₀ t10 input packet sheet out held goes-on turns = turns
+
+nothing-requires : tie.Need-nothing-requires Inv-loop μ-loop
+nothing-requires c κs = search needs
+
+loop-holds : tie.Need-loop-holds Inv-loop μ-loop
+loop-holds c = (omega arith, omega arith)
+
+slice-aggregate-next-line : tie.Need-slice-aggregate-next-line Inv-loop μ-loop
+slice-aggregate-next-line c = refl
+
+next-line-requires : tie.Need-next-line-requires Inv-loop μ-loop
+next-line-requires c κs = search needs
+
+write-next-requires : tie.Need-write-next-requires Inv-loop μ-loop
+write-next-requires c κs = (c .before .before .before .before .before .next-line .ensures .0, (omega arith, (omega arith, omega arith)))
+
+sub-turns : tie.Need-sub-turns Inv-loop μ-loop
+sub-turns c = omega arith
+
+loop-less : tie.Need-loop-less Inv-loop μ-loop
+loop-less c = omega arith
+
+loop-again : tie.Need-loop-again Inv-loop μ-loop
+loop-again c = let l = c .before .before .before .before .before .before .before .next-line in (l .ensures .1 .0, omega (arith, l .ensures .1 .1, l .kept .1 .0))
+
+returns : tie.Need-returns Inv-loop μ-loop
+returns c = tt
+
+returns-2 : tie.Need-returns-2 Inv-loop μ-loop
+returns-2 c = tt
+
+pub run-spec : {M : Type 1} → statement M
+run-spec =
+    tie.close
+    (tie.spec
+    Inv-loop
+    μ-loop
+    nothing-requires
+    loop-holds
+    slice-aggregate-next-line
+    next-line-requires
+    write-next-requires
+    sub-turns
+    loop-less
+    loop-again
+    returns
+    returns-2)
