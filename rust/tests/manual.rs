@@ -404,7 +404,7 @@ fn refusals_name_the_fields_that_their_rows_list() {
     for answer in [answers, refusals_of_edition_1(), refusals_of_room_and_writer()].concat() {
         found.entry(answer.number).or_default().insert(answer.field);
     }
-    let numbers = |cell: &str| cell.split(|c: char| !c.is_alphanumeric()).filter_map(|word| word.parse().ok()).collect();
+    let numbers = |cell: &str| cell.split([' ', ',', ';']).filter_map(|word| word.parse().ok()).collect();
     let listed: BTreeMap<_, _> = table("## Refusals")[2..].iter().map(|row| (row[0].parse().unwrap(), numbers(&row[2]))).collect();
     assert_eq!(found, listed);
 }
