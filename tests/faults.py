@@ -193,7 +193,7 @@ class Bench(NamedTuple):
 
     programs: Path
     room: Path
-    library: Path
+    shim: Path
 
 
 # ---- Running a program
@@ -216,7 +216,7 @@ class Run:
         self.err = tempfile.TemporaryFile()
         environment = dict(os.environ)
         if settings is not None:
-            environment["LD_PRELOAD"] = str(bench.library)
+            environment["LD_PRELOAD"] = str(bench.shim)
             environment.update({f"FAULTS_{name.upper()}": str(value) for name, value in settings.items()})
         self.process = subprocess.Popen(
             [bench.programs / program.name, *program.arguments],
