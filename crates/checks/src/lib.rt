@@ -6,18 +6,21 @@ ghost use Prim.Native.Nat.{_≤_};
 ghost use lib.Dec.{eqb};
 ghost use lib.ListN.{length};
 ghost use Rattle.text.specs.Text.{isText, textFault};
-ghost use Rattle.mask.specs.Mask.{between};
+ghost use Rattle.octets.specs.Octets.{between};
 ghost use Rattle.format.specs.Packet.{headerWidths, headerTexts, missionWidths, missionTexts, freeTextWidths, freeTextTexts};
+ghost use Rattle.format.specs.declared.Check.the-variants.{Passed};
 ghost use Rattle.format.specs.Rows.{naming, firstRow, headerRows, missionRows, jobRows, textRows, keptRows};
+ghost use Rattle.format.specs.Reader.{readingOf};
+use format::Check;
 
 // The row with this number, where a field is at fault; 0 says that none is.
-pub fn naming_row(number: usize, field: usize) -> format::Check
+pub fn naming_row(number: usize, field: usize) -> Check
     ensures { λ r. ⌜ r ≡ firstRow (naming number field ∷ []) ⌝ }
 {
     if field == 0 {
-        format::Check::Passed
+        Check::Passed
     } else {
-        format::Check::Failed { number, field }
+        Check::Failed(number, field)
     }
 }
 
@@ -58,34 +61,32 @@ fn header_text(l: &[u8]) -> usize
     first_other(&l[6..8], 3, &l[9..11], 5, &l[14..24], 8)
 }
 
-pub fn header_check(edition: u32, l: &[u8]) -> format::Check
-    ensures { λ r. ⌜ r ≡ firstRow (headerRows edition (now (l .entry))) ⌝ }
+pub fn header_check(settings: format::Settings, l: &[u8]) -> Check
+    ensures { λ r. ⌜ r ≡ firstRow (headerRows settings (now (l .entry))) ⌝ }
 {
-    if !is_edition(edition) {
-        return format::Check::Failed {
-            number: 1,
-            field: 0,
-        };
+    if !is_edition(settings.edition) {
+        return Check::Failed(1, 0);
     }
     if l.len() < 32 || 65536 < l.len() {
-        return format::Check::Failed {
-            number: 2,
-            field: 0,
-        };
+        return Check::Failed(2, 0);
     }
     if !is_version(l[0], l[1]) {
-        return format::Check::Failed {
-            number: 3,
-            field: 0,
-        };
+        return Check::Failed(3, 0);
     }
     if octets::get_u32(l, 2) as usize != l.len() {
-        return format::Check::Failed {
-            number: 4,
-            field: 0,
-        };
+        return Check::Failed(4, 0);
     }
     naming_row(5, header_text(l))
+}
+
+// The reading of a packet to whose header no row applies: what is asked for, and the version, which P1 begins with.
+pub fn reading_of(settings: format::Settings, packet: &[u8]) -> format::Reading
+    requires { ⌜ firstRow (headerRows settings (now packet)) ≡ Passed ⌝ }
+    ensures { λ r. ⌜ r ≡ readingOf settings (now (packet .entry)) ⌝ }
+{
+    let first = packet[0];
+    let version = first - 48;
+    format::Reading { settings, version }
 }
 
 // M1, M2 and M4.
@@ -96,59 +97,38 @@ fn mission_text(b: &[u8]) -> usize
     first_other(&b[0..12], 1, &b[12..24], 2, &b[25..35], 4)
 }
 
-pub fn mission_check(b: &[u8]) -> format::Check
+pub fn mission_check(b: &[u8]) -> Check
     ensures { λ r. ⌜ r ≡ firstRow (missionRows (now (b .entry))) ⌝ }
 {
     if b.len() != 39 {
-        return format::Check::Failed {
-            number: 9,
-            field: 0,
-        };
+        return Check::Failed(9, 0);
     }
     let fault = mission_text(b);
     if fault != 0 {
-        return format::Check::Failed {
-            number: 10,
-            field: fault,
-        };
+        return Check::Failed(10, fault);
     }
-    if !editions::is_within(1, 12, b[37]) {
-        return format::Check::Failed {
-            number: 13,
-            field: 6,
-        };
+    if !octets::is_between(1, 12, b[37]) {
+        return Check::Failed(13, 6);
     }
-    if !editions::is_within(1, 31, b[38]) {
-        return format::Check::Failed {
-            number: 13,
-            field: 7,
-        };
+    if !octets::is_between(1, 31, b[38]) {
+        return Check::Failed(13, 7);
     }
-    format::Check::Passed
+    Check::Passed
 }
 
-pub fn job_check(r: format::Reading, b: &[u8]) -> format::Check
+pub fn job_check(r: format::Reading, b: &[u8]) -> Check
     ensures { λ c. ⌜ c ≡ firstRow (jobRows r (now (b .entry))) ⌝ }
 {
     if b.len() != 68 {
-        return format::Check::Failed {
-            number: 9,
-            field: 0,
-        };
+        return Check::Failed(9, 0);
     }
     if !text::is_text(&b[5..11]) {
-        return format::Check::Failed {
-            number: 10,
-            field: 3,
-        };
+        return Check::Failed(10, 3);
     }
     if editions::is_older(r) && editions::is_new_mode(b[45]) {
-        return format::Check::Failed {
-            number: 15,
-            field: 14,
-        };
+        return Check::Failed(15, 14);
     }
-    format::Check::Passed
+    Check::Passed
 }
 
 // F1, F2 and F3.
@@ -159,27 +139,21 @@ fn free_text(b: &[u8]) -> usize
     first_other(&b[0..10], 1, &b[10..20], 2, &b[20..], 3)
 }
 
-pub fn text_check(b: &[u8]) -> format::Check
+pub fn text_check(b: &[u8]) -> Check
     ensures { λ r. ⌜ r ≡ firstRow (textRows (now (b .entry))) ⌝ }
 {
     if b.len() < 20 {
-        return format::Check::Failed {
-            number: 9,
-            field: 0,
-        };
+        return Check::Failed(9, 0);
     }
     naming_row(10, free_text(b))
 }
 
 // A body that is kept as bytes, of which there are n.
-pub fn kept_check(n: usize, b: &[u8]) -> format::Check
+pub fn kept_check(n: usize, b: &[u8]) -> Check
     ensures { λ r. ⌜ r ≡ firstRow (keptRows n (now (b .entry))) ⌝ }
 {
     if b.len() != n {
-        return format::Check::Failed {
-            number: 9,
-            field: 0,
-        };
+        return Check::Failed(9, 0);
     }
-    format::Check::Passed
+    Check::Passed
 }

@@ -1,59 +1,58 @@
 // Bytes copied from p on in s to q on in o, and zeros stored. Up to 8 bytes are read as a number and written as one, which is one move;
 // a loop over its bytes is not. A longer run is copied as several such, one after another.
 ghost use mathlib.Core.Path.{_≡_};
-ghost use mathlib.Core.List.{[]};
 ghost use Prim.Native.Nat.{_+_, _≤_};
-ghost use lib.ListN.{length, take, drop};
+ghost use lib.ListN.{length};
 ghost use lib.Seq.{sets};
-ghost use Rattle.octets.specs.Layout.{pad};
+ghost use Rattle.copies.specs.Copied.{Room, copied, cleared};
 
 pub fn copy1(s: &[u8], p: usize, o: &mut [u8], q: usize)
-    requires { ⌜ (p + 1 ≤ length (now s)) × (q + 1 ≤ length (now o)) ⌝ }
-    ensures { λ _. ⌜ now (o .exit) ≡ sets (now (o .entry)) q (take 1 (drop p (now (s .entry)))) ⌝ }
+    requires { ⌜ Room 1 (now s) p (now o) q ⌝ }
+    ensures { λ _. ⌜ now (o .exit) ≡ copied 1 (now (s .entry)) p (now (o .entry)) q ⌝ }
 {
     o[q] = s[p];
 }
 
 pub fn copy2(s: &[u8], p: usize, o: &mut [u8], q: usize)
-    requires { ⌜ (p + 2 ≤ length (now s)) × (q + 2 ≤ length (now o)) ⌝ }
-    ensures { λ _. ⌜ now (o .exit) ≡ sets (now (o .entry)) q (take 2 (drop p (now (s .entry)))) ⌝ }
+    requires { ⌜ Room 2 (now s) p (now o) q ⌝ }
+    ensures { λ _. ⌜ now (o .exit) ≡ copied 2 (now (s .entry)) p (now (o .entry)) q ⌝ }
 {
     octets::put_u16(o, q, octets::get_u16(s, p));
 }
 
 pub fn copy4(s: &[u8], p: usize, o: &mut [u8], q: usize)
-    requires { ⌜ (p + 4 ≤ length (now s)) × (q + 4 ≤ length (now o)) ⌝ }
-    ensures { λ _. ⌜ now (o .exit) ≡ sets (now (o .entry)) q (take 4 (drop p (now (s .entry)))) ⌝ }
+    requires { ⌜ Room 4 (now s) p (now o) q ⌝ }
+    ensures { λ _. ⌜ now (o .exit) ≡ copied 4 (now (s .entry)) p (now (o .entry)) q ⌝ }
 {
     octets::put_u32(o, q, octets::get_u32(s, p));
 }
 
 pub fn copy8(s: &[u8], p: usize, o: &mut [u8], q: usize)
-    requires { ⌜ (p + 8 ≤ length (now s)) × (q + 8 ≤ length (now o)) ⌝ }
-    ensures { λ _. ⌜ now (o .exit) ≡ sets (now (o .entry)) q (take 8 (drop p (now (s .entry)))) ⌝ }
+    requires { ⌜ Room 8 (now s) p (now o) q ⌝ }
+    ensures { λ _. ⌜ now (o .exit) ≡ copied 8 (now (s .entry)) p (now (o .entry)) q ⌝ }
 {
     octets::put_u64(o, q, octets::get_u64(s, p));
 }
 
 pub fn copy16(s: &[u8], p: usize, o: &mut [u8], q: usize)
-    requires { ⌜ (p + 16 ≤ length (now s)) × (q + 16 ≤ length (now o)) ⌝ }
-    ensures { λ _. ⌜ now (o .exit) ≡ sets (now (o .entry)) q (take 16 (drop p (now (s .entry)))) ⌝ }
+    requires { ⌜ Room 16 (now s) p (now o) q ⌝ }
+    ensures { λ _. ⌜ now (o .exit) ≡ copied 16 (now (s .entry)) p (now (o .entry)) q ⌝ }
 {
     copy8(s, p, o, q);
     copy8(s, p + 8, o, q + 8);
 }
 
 pub fn copy12(s: &[u8], p: usize, o: &mut [u8], q: usize)
-    requires { ⌜ (p + 12 ≤ length (now s)) × (q + 12 ≤ length (now o)) ⌝ }
-    ensures { λ _. ⌜ now (o .exit) ≡ sets (now (o .entry)) q (take 12 (drop p (now (s .entry)))) ⌝ }
+    requires { ⌜ Room 12 (now s) p (now o) q ⌝ }
+    ensures { λ _. ⌜ now (o .exit) ≡ copied 12 (now (s .entry)) p (now (o .entry)) q ⌝ }
 {
     copy8(s, p, o, q);
     copy4(s, p + 8, o, q + 8);
 }
 
 pub fn copy23(s: &[u8], p: usize, o: &mut [u8], q: usize)
-    requires { ⌜ (p + 23 ≤ length (now s)) × (q + 23 ≤ length (now o)) ⌝ }
-    ensures { λ _. ⌜ now (o .exit) ≡ sets (now (o .entry)) q (take 23 (drop p (now (s .entry)))) ⌝ }
+    requires { ⌜ Room 23 (now s) p (now o) q ⌝ }
+    ensures { λ _. ⌜ now (o .exit) ≡ copied 23 (now (s .entry)) p (now (o .entry)) q ⌝ }
 {
     copy16(s, p, o, q);
     copy4(s, p + 16, o, q + 16);
@@ -62,8 +61,8 @@ pub fn copy23(s: &[u8], p: usize, o: &mut [u8], q: usize)
 }
 
 pub fn copy14(s: &[u8], p: usize, o: &mut [u8], q: usize)
-    requires { ⌜ (p + 14 ≤ length (now s)) × (q + 14 ≤ length (now o)) ⌝ }
-    ensures { λ _. ⌜ now (o .exit) ≡ sets (now (o .entry)) q (take 14 (drop p (now (s .entry)))) ⌝ }
+    requires { ⌜ Room 14 (now s) p (now o) q ⌝ }
+    ensures { λ _. ⌜ now (o .exit) ≡ copied 14 (now (s .entry)) p (now (o .entry)) q ⌝ }
 {
     copy8(s, p, o, q);
     copy4(s, p + 8, o, q + 8);
@@ -71,32 +70,32 @@ pub fn copy14(s: &[u8], p: usize, o: &mut [u8], q: usize)
 }
 
 pub fn copy20(s: &[u8], p: usize, o: &mut [u8], q: usize)
-    requires { ⌜ (p + 20 ≤ length (now s)) × (q + 20 ≤ length (now o)) ⌝ }
-    ensures { λ _. ⌜ now (o .exit) ≡ sets (now (o .entry)) q (take 20 (drop p (now (s .entry)))) ⌝ }
+    requires { ⌜ Room 20 (now s) p (now o) q ⌝ }
+    ensures { λ _. ⌜ now (o .exit) ≡ copied 20 (now (s .entry)) p (now (o .entry)) q ⌝ }
 {
     copy16(s, p, o, q);
     copy4(s, p + 16, o, q + 16);
 }
 
 pub fn copy21(s: &[u8], p: usize, o: &mut [u8], q: usize)
-    requires { ⌜ (p + 21 ≤ length (now s)) × (q + 21 ≤ length (now o)) ⌝ }
-    ensures { λ _. ⌜ now (o .exit) ≡ sets (now (o .entry)) q (take 21 (drop p (now (s .entry)))) ⌝ }
+    requires { ⌜ Room 21 (now s) p (now o) q ⌝ }
+    ensures { λ _. ⌜ now (o .exit) ≡ copied 21 (now (s .entry)) p (now (o .entry)) q ⌝ }
 {
     copy20(s, p, o, q);
     copy1(s, p + 20, o, q + 20);
 }
 
 pub fn copy32(s: &[u8], p: usize, o: &mut [u8], q: usize)
-    requires { ⌜ (p + 32 ≤ length (now s)) × (q + 32 ≤ length (now o)) ⌝ }
-    ensures { λ _. ⌜ now (o .exit) ≡ sets (now (o .entry)) q (take 32 (drop p (now (s .entry)))) ⌝ }
+    requires { ⌜ Room 32 (now s) p (now o) q ⌝ }
+    ensures { λ _. ⌜ now (o .exit) ≡ copied 32 (now (s .entry)) p (now (o .entry)) q ⌝ }
 {
     copy16(s, p, o, q);
     copy16(s, p + 16, o, q + 16);
 }
 
 pub fn copy39(s: &[u8], p: usize, o: &mut [u8], q: usize)
-    requires { ⌜ (p + 39 ≤ length (now s)) × (q + 39 ≤ length (now o)) ⌝ }
-    ensures { λ _. ⌜ now (o .exit) ≡ sets (now (o .entry)) q (take 39 (drop p (now (s .entry)))) ⌝ }
+    requires { ⌜ Room 39 (now s) p (now o) q ⌝ }
+    ensures { λ _. ⌜ now (o .exit) ≡ copied 39 (now (s .entry)) p (now (o .entry)) q ⌝ }
 {
     copy32(s, p, o, q);
     copy4(s, p + 32, o, q + 32);
@@ -105,8 +104,8 @@ pub fn copy39(s: &[u8], p: usize, o: &mut [u8], q: usize)
 }
 
 pub fn copy68(s: &[u8], p: usize, o: &mut [u8], q: usize)
-    requires { ⌜ (p + 68 ≤ length (now s)) × (q + 68 ≤ length (now o)) ⌝ }
-    ensures { λ _. ⌜ now (o .exit) ≡ sets (now (o .entry)) q (take 68 (drop p (now (s .entry)))) ⌝ }
+    requires { ⌜ Room 68 (now s) p (now o) q ⌝ }
+    ensures { λ _. ⌜ now (o .exit) ≡ copied 68 (now (s .entry)) p (now (o .entry)) q ⌝ }
 {
     copy32(s, p, o, q);
     copy32(s, p + 32, o, q + 32);
@@ -125,35 +124,35 @@ pub fn copy_all(s: &[u8], o: &mut [u8], q: usize)
 
 pub fn clear1(o: &mut [u8], q: usize)
     requires { ⌜ q + 1 ≤ length (now o) ⌝ }
-    ensures { λ _. ⌜ now (o .exit) ≡ sets (now (o .entry)) q (pad 1 []) ⌝ }
+    ensures { λ _. ⌜ now (o .exit) ≡ cleared 1 (now (o .entry)) q ⌝ }
 {
     o[q] = 0;
 }
 
 pub fn clear2(o: &mut [u8], q: usize)
     requires { ⌜ q + 2 ≤ length (now o) ⌝ }
-    ensures { λ _. ⌜ now (o .exit) ≡ sets (now (o .entry)) q (pad 2 []) ⌝ }
+    ensures { λ _. ⌜ now (o .exit) ≡ cleared 2 (now (o .entry)) q ⌝ }
 {
     octets::put_u16(o, q, 0);
 }
 
 pub fn clear4(o: &mut [u8], q: usize)
     requires { ⌜ q + 4 ≤ length (now o) ⌝ }
-    ensures { λ _. ⌜ now (o .exit) ≡ sets (now (o .entry)) q (pad 4 []) ⌝ }
+    ensures { λ _. ⌜ now (o .exit) ≡ cleared 4 (now (o .entry)) q ⌝ }
 {
     octets::put_u32(o, q, 0);
 }
 
 pub fn clear8(o: &mut [u8], q: usize)
     requires { ⌜ q + 8 ≤ length (now o) ⌝ }
-    ensures { λ _. ⌜ now (o .exit) ≡ sets (now (o .entry)) q (pad 8 []) ⌝ }
+    ensures { λ _. ⌜ now (o .exit) ≡ cleared 8 (now (o .entry)) q ⌝ }
 {
     octets::put_u64(o, q, 0);
 }
 
 pub fn clear16(o: &mut [u8], q: usize)
     requires { ⌜ q + 16 ≤ length (now o) ⌝ }
-    ensures { λ _. ⌜ now (o .exit) ≡ sets (now (o .entry)) q (pad 16 []) ⌝ }
+    ensures { λ _. ⌜ now (o .exit) ≡ cleared 16 (now (o .entry)) q ⌝ }
 {
     clear8(o, q);
     clear8(o, q + 8);
@@ -161,7 +160,7 @@ pub fn clear16(o: &mut [u8], q: usize)
 
 pub fn clear32(o: &mut [u8], q: usize)
     requires { ⌜ q + 32 ≤ length (now o) ⌝ }
-    ensures { λ _. ⌜ now (o .exit) ≡ sets (now (o .entry)) q (pad 32 []) ⌝ }
+    ensures { λ _. ⌜ now (o .exit) ≡ cleared 32 (now (o .entry)) q ⌝ }
 {
     clear16(o, q);
     clear16(o, q + 16);

@@ -10,7 +10,8 @@ use Rattle.octets.proofs.ByteLists.{nil-bytes, cons-bytes, append-bytes, take-b
 use Rattle.mask.specs.Fields.{announcedFields, taken, dwellWidths, targetWidths, d32}
 use Rattle.format.specs.Packet.{Segment, s2, segmentBytes}
 use Rattle.format.specs.Sheet.{Record, bodyLength}
-use Rattle.format.specs.Writer.{Listed, list, listed, isFollower, typeOf, given, maskAfter, Regrouped, regroup, segmentsBytes, spellRecords, spell}
+use Rattle.format.proofs.Rows.{either}
+use Rattle.format.specs.Writer.{Listed, list, listed, isFollower, typeOf, given, givenBehind, Regrouped, regroup, segmentsBytes, spellRecords, spell}
 
 -- ---- records
 
@@ -41,34 +42,38 @@ list-bytes (suc k) (kind ∷ x) b = go (ltb 0 (bodyLength kind) && leb (bodyLeng
     go true i = (take-bytes (bodyLength kind) x (λ i. b (suc i)), i)
     go false i = tt
 
--- what a record gives to its segment
-given-bytes : (mask : ℕ) (r : Record) → Bytes (r .body) → Bytes (given mask r)
+-- what a record gives to the segment that it begins
+given-bytes : (r : Record) → Bytes (r .body) → Bytes (given r)
 unfolding given
-given-bytes mask r b = go (eqb (r .kind) 3) (eqb (r .kind) 4) (eqb (r .kind) 5) (eqb (r .kind) 6) (eqb (r .kind) 7) (eqb (r .kind) 8)
-  where
-    go : (k3 k4 k5 k6 k7 k8 : Bool)
-        → Bytes (cond k3 (take 8 (r .body) ++ announcedFields (be 8 (r .body)) 2 dwellWidths (drop 8 (r .body))) (cond k4 (announcedFields mask (d32 1) targetWidths (r .body)) (cond k5 (take 20 (r .body)) (cond k6 (take (getD (r .body) 0 0) (drop 1 (r .body))) (cond k7 [] (cond k8 (take 68 (r .body)) (r .body)))))))
-    go true k4 k5 k6 k7 k8 = append-bytes (take 8 (r .body)) _ (take-bytes 8 (r .body) b) (announced-bytes _ 2 dwellWidths (drop 8 (r .body)) (drop-bytes 8 (r .body) b))
-    go false true k5 k6 k7 k8 = announced-bytes mask (d32 1) targetWidths (r .body) b
-    go false false true k6 k7 k8 = take-bytes 20 (r .body) b
-    go false false false true k7 k8 = take-bytes (getD (r .body) 0 0) (drop 1 (r .body)) (drop-bytes 1 (r .body) b)
-    go false false false false true k8 = nil-bytes
-    go false false false false false true = take-bytes 68 (r .body) b
-    go false false false false false false = b
+given-bytes r b =
+    let fields = announced-bytes (be 8 (r .body)) 2 dwellWidths (drop 8 (r .body)) (drop-bytes 8 (r .body) b) in
+    either Bytes (eqb (r .kind) 3) (append-bytes (take 8 (r .body)) _ (take-bytes 8 (r .body) b) fields)
+    (either Bytes (eqb (r .kind) 5) (take-bytes 20 (r .body) b)
+    (either Bytes (eqb (r .kind) 7) nil-bytes
+    (either Bytes (eqb (r .kind) 8) (take-bytes 68 (r .body) b)
+    b)))
 
--- the type that it gives
+-- what a follower gives
+behind-bytes : (leader r : Record) → Bytes (r .body) → Bytes (givenBehind leader r)
+unfolding givenBehind
+behind-bytes leader r b =
+    either Bytes (eqb (r .kind) 4) (announced-bytes (be 8 (leader .body)) (d32 1) targetWidths (r .body) b)
+    (take-bytes (getD (r .body) 0 0) (drop 1 (r .body)) (drop-bytes 1 (r .body) b))
+
+-- the type of the segment that a record begins
 type-byte : (r : Record) → Bytes (r .body) → typeOf r < 256
 unfolding typeOf
-type-byte r b = go (eqb (r .kind) 2) (eqb (r .kind) 3) (eqb (r .kind) 5) (eqb (r .kind) 8) (eqb (r .kind) 9) (eqb (r .kind) 10)
+type-byte r b =
+    either IsByte (eqb (r .kind) 2) (lit< tt)
+    (either IsByte (eqb (r .kind) 3) (lit< tt)
+    (either IsByte (eqb (r .kind) 5) (lit< tt)
+    (either IsByte (eqb (r .kind) 8) (lit< tt)
+    (either IsByte (eqb (r .kind) 9) (lit< tt)
+    (either IsByte (eqb (r .kind) 10) (lit< tt)
+    (b 0))))))
   where
-    go : (k2 k3 k5 k8 k9 k10 : Bool) → cond k2 1 (cond k3 2 (cond k5 6 (cond k8 5 (cond k9 10 (cond k10 13 (getD (r .body) 0 0)))))) < 256
-    go true k3 k5 k8 k9 k10 = lit< tt
-    go false true k5 k8 k9 k10 = lit< tt
-    go false false true k8 k9 k10 = lit< tt
-    go false false false true k9 k10 = lit< tt
-    go false false false false true k10 = lit< tt
-    go false false false false false true = lit< tt
-    go false false false false false false = b 0
+    IsByte : ℕ → Type 0
+    IsByte n = n < 256
 
 -- ---- segments
 
@@ -78,24 +83,24 @@ SegmentsBytes [] = Unit {0}
 SegmentsBytes (s ∷ ss) = (s .type < 256) × Bytes (s .body) × SegmentsBytes ss
 
 -- so it is with what records give
-regroup-bytes : (mask : ℕ) (rs : List Record) → RecordsBytes rs → Bytes (regroup mask rs .front) × SegmentsBytes (regroup mask rs .segments)
+regroup-bytes : (leader : Record) (rs : List Record) → RecordsBytes rs → Bytes (regroup leader rs .front) × SegmentsBytes (regroup leader rs .segments)
 unfolding regroup
-regroup-bytes mask [] b = (nil-bytes, tt)
-regroup-bytes mask (r ∷ rs) b = go (isFollower r) (regroup-bytes mask rs (b .1)) (regroup-bytes (maskAfter r) rs (b .1))
+regroup-bytes leader [] b = (nil-bytes, tt)
+regroup-bytes leader (r ∷ rs) b = go (isFollower r) (regroup-bytes leader rs (b .1)) (regroup-bytes r rs (b .1))
   where
     same : Regrouped
-    same = regroup mask rs
+    same = regroup leader rs
 
     next : Regrouped
-    next = regroup (maskAfter r) rs
+    next = regroup r rs
 
     both : Regrouped → Type 0
     both x = Bytes (x .front) × SegmentsBytes (x .segments)
 
     go : (t : Bool) → both same → both next
-        → both (cond t (record { front = given mask r ++ same .front; segments = same .segments }) (record { front = []; segments = record { type = typeOf r; body = given mask r ++ next .front } ∷ next .segments }))
-    go true x y = (append-bytes (given mask r) (same .front) (given-bytes mask r (b .0)) (x .0), x .1)
-    go false x y = (nil-bytes, (type-byte r (b .0), append-bytes (given mask r) (next .front) (given-bytes mask r (b .0)) (y .0), y .1))
+        → both (cond t (record { front = givenBehind leader r ++ same .front; segments = same .segments }) (record { front = []; segments = record { type = typeOf r; body = given r ++ next .front } ∷ next .segments }))
+    go true x y = (append-bytes (givenBehind leader r) (same .front) (behind-bytes leader r (b .0)) (x .0), x .1)
+    go false x y = (nil-bytes, (type-byte r (b .0), append-bytes (given r) (next .front) (given-bytes r (b .0)) (y .0), y .1))
 
 -- spelt segments
 segments-bytes : (ss : List Segment) → SegmentsBytes ss → Bytes (segmentsBytes ss)
@@ -113,4 +118,4 @@ spell-bytes x b = go (listed x .records) (list-bytes (length x) x b)
   where
     go : (rs : List Record) → RecordsBytes rs → Bytes (spellRecords rs)
     go [] h = nil-bytes
-    go (r ∷ rs) h = append-bytes (r .body) (segmentsBytes (regroup 0 rs .segments)) (h .0) (segments-bytes (regroup 0 rs .segments) (regroup-bytes 0 rs (h .1) .1))
+    go (r ∷ rs) h = append-bytes (r .body) (segmentsBytes (regroup r rs .segments)) (h .0) (segments-bytes (regroup r rs .segments) (regroup-bytes r rs (h .1) .1))

@@ -7,7 +7,6 @@ use native.Mathlib.Omega.{arith}
 use mathlib.Core.Path.{_≡_, refl, sym, ap, _∙_}
 use mathlib.Core.Bool.{Bool, true, false, not, _&&_}
 use mathlib.Core.List.{List, [], _∷_, _++_, append-nil}
-use borrow.Author.Tests.{lt-ltb, eq-eqb}
 use lib.Dec.{eqb}
 use lib.ListN.{length, take, drop, length-drop}
 use lib.Seq.{length-take-le, drop-append-le, drop-at}
@@ -20,8 +19,9 @@ use Rattle.format.specs.Packet.{Segment}
 use Rattle.format.specs.Dwell.{D, dwellFields, targetCount}
 use Rattle.format.specs.Edition.{isOlder}
 use Rattle.format.specs.Sheet.{Record, bodyLength, recordOf, dwellRecord, targetRecord, targetRecords, pieceRecord, pieceRecords, pieceCount, piecesOf, dwellRecords, textRecords, opaqueRecords, jobRecords, segmentRecords, packetRecords}
-use Rattle.format.specs.Writer.{noHeader, calledFor, isFollower, isComplete}
+use Rattle.format.specs.Writer.{noHeader, due, calledFor, isComplete}
 use Rattle.format.proofs.Records.{by-type}
+use Rattle.format.proofs.Followers.{follows, begins, complete, none-left}
 use Rattle.format.proofs.Segments.{Sound, AllSound, by-rows}
 use Rattle.octets.proofs.Laws.{be-front}
 use Rattle.format.proofs.Dwells.{is-dwell}
@@ -29,34 +29,27 @@ use Rattle.format.proofs.Bodies.{text-length, length-dwell, dwell-exact, text-e
 
 -- nothing is called for, and nothing lacks
 abbrev pub Complete : List Record → Type 0
-Complete rs = isComplete (record { targets = 0; bytes = 0 }) rs ≡ true
-
--- a record that begins a segment, before what it calls for
-leads : (q : Record) (rs : List Record) → isFollower q ≡ false → isComplete (calledFor q) rs ≡ true → Complete (q ∷ rs)
-unfolding isComplete
-leads q rs f e = rw (f, e)
+Complete rs = isComplete (due 0 0) rs ≡ true
 
 -- so many targets are had where they are called for
-targets-complete : (mask : ℕ) (area : Area) (n : ℕ) (t : List ℕ) (rs : List Record) → Complete rs
-    → isComplete (record { targets = n; bytes = 0 }) (targetRecords mask area n t ++ rs) ≡ true
-unfolding isComplete targetRecords targetRecord recordOf
-targets-complete mask area zero t rs h = h
-targets-complete mask area (suc n) t rs h =
+targets-complete : (mask : ℕ) (area : Area) (n : ℕ) (t : List ℕ) (rs : List Record) → Complete rs → isComplete (due 4 n) (targetRecords mask area n t ++ rs) ≡ true
+unfolding targetRecords targetRecord recordOf
+targets-complete mask area zero t rs c = none-left 4 rs c
+targets-complete mask area (suc n) t rs c =
     let e : suc n - 1 ≡ n = omega arith in
-    rw (lt-ltb 0 (suc n) (omega arith), e) (targets-complete mask area n _ rs h)
+    complete (follows (omega arith) refl refl (rw e (targets-complete mask area n _ rs c)))
 
 -- so are pieces of so many bytes
 pieces-from : (n : ℕ) (b : List ℕ) (rs : List Record) → length b ≤ n * 32 → n * 32 < length b + 32 → Complete rs
-    → isComplete (record { targets = 0; bytes = length b }) (pieceRecords n b ++ rs) ≡ true
-unfolding isComplete pieceRecords pieceRecord recordOf bodyLength pad
-pieces-from zero b rs h k c = let e : length b ≡ 0 = omega arith in rw e c
+    → isComplete (due 6 (length b)) (pieceRecords n b ++ rs) ≡ true
+unfolding pieceRecords pieceRecord recordOf bodyLength pad
+pieces-from zero b rs h k c = let e : length b ≡ 0 = omega arith in rw e (none-left 6 rs c)
 pieces-from (suc n) b rs h k c =
-    let e : length b - 32 ≡ length (drop 32 b) = sym (length-drop 32 b) in
-    rw (lt-ltb 0 (length b) (omega arith), eq-eqb (min 32 (length b)) (min 32 (length b)) refl, e)
-    (pieces-from n (drop 32 b) rs (rw length-drop (omega arith)) (rw length-drop (omega arith)) c)
+    let e : length b - min 32 (length b) ≡ length (drop 32 b) = omega (arith, length-drop 32 b) in
+    complete (follows (omega arith) refl refl (rw e (pieces-from n (drop 32 b) rs (rw length-drop (omega arith)) (rw length-drop (omega arith)) c)))
 
 -- and all the pieces of a body
-pieces-complete : (b : List ℕ) (rs : List Record) → Complete rs → isComplete (record { targets = 0; bytes = length b }) (piecesOf b ++ rs) ≡ true
+pieces-complete : (b : List ℕ) (rs : List Record) → Complete rs → isComplete (due 6 (length b)) (piecesOf b ++ rs) ≡ true
 unfolding pieceCount
 pieces-complete b rs c = pieces-from ((length b + 31) / 32) b rs (omega arith) (omega arith) c
 
@@ -82,7 +75,7 @@ module _ (r : Reading) (s : Segment) (rs : List Record) (c : Complete rs) where
   dwell-complete : isOlder r ≡ false → 8 ≤ length (s .body) → Complete (dwellRecords r (s .body) ++ rs)
   unfolding dwellRecords calledFor
   dwell-complete o h =
-      rw (dwell-exact r (s .body) o h) (leads _ _ refl (rw (dwell-calls (s .body) h) (targets-complete _ _ (targetCount (s .body)) _ rs c)))
+      rw (dwell-exact r (s .body) o h) (complete (begins refl refl (rw (dwell-calls (s .body) h) (targets-complete _ _ (targetCount (s .body)) _ rs c))))
 
   -- a text with its pieces
   text-complete : 20 ≤ length (s .body) → length (s .body) ≤ 65536 → Complete (textRecords (s .body) ++ rs)
@@ -92,25 +85,25 @@ module _ (r : Reading) (s : Segment) (rs : List Record) (c : Complete rs) where
       let n : length b - 20 ≤ 65536 = omega arith in
       let e : be 4 (drop 20 (take 20 b ++ bytes 4 (length b - 20))) ≡ length (drop 20 b) =
       ap (be 4) (drop-at (take 20 b) (bytes 4 (length b - 20)) 20 (length-take-le 20 b h)) ∙ length-back (length b - 20) n ∙ sym (length-drop 20 b) in
-      rw (text-exact b (length b - 20) h) (leads _ _ refl (rw e (pieces-complete (drop 20 b) rs c)))
+      rw (text-exact b (length b - 20) h) (complete (begins refl refl (rw e (pieces-complete (drop 20 b) rs c))))
 
   -- an opaque segment with its pieces
   opaque-complete : length (s .body) ≤ 65536 → Complete (opaqueRecords (s .type) (s .body) ++ rs)
   unfolding opaqueRecords calledFor
   opaque-complete h =
-      rw (opaque-exact (s .type) (length (s .body))) (leads _ _ refl (rw (length-back (length (s .body)) h) (pieces-complete (s .body) rs c)))
+      rw (opaque-exact (s .type) (length (s .body))) (complete (begins refl refl (rw (length-back (length (s .body)) h) (pieces-complete (s .body) rs c))))
 
   -- any segment
   pub segment-complete : isOlder r ≡ false → Sound r s → Complete (segmentRecords r s ++ rs)
   unfolding jobRecords recordOf calledFor
   segment-complete o w =
       by-rows (λ (qs : List Record). Complete (qs ++ rs)) r s (w .rows)
-      (λ t e. leads _ rs refl c)
+      (λ t e. complete (begins refl refl c))
       (λ t e. dwell-complete o (omega (arith, is-dwell r (s .body) e .exact)))
-      (λ t e. leads _ rs refl c)
+      (λ t e. complete (begins refl refl c))
       (λ t e. text-complete (text-length (s .body) e) (w .short))
-      (λ t e. leads _ rs refl c)
-      (λ t e. leads _ rs refl c)
+      (λ t e. complete (begins refl refl c))
+      (λ t e. complete (begins refl refl c))
       (opaque-complete (w .short))
 
 -- all segments, one after another

@@ -4,17 +4,18 @@ use Prim.Native.Nat.{ℕ, zero, suc, _+_, _*_}
 use native.Mathlib.Nat.{zero-add, add-zero, add-assoc, zero-mul}
 use native.Mathlib.Omega.{arith}
 use mathlib.Core.Path.{_≡_, refl, sym, ap, ap₂, _∙_}
-use mathlib.Core.Bool.{Bool, true, false, cond, not, _&&_, _||_}
+use mathlib.Core.Bool.{Bool, true, false, cond}
 use mathlib.Core.List.{List, [], _∷_, _++_}
-use borrow.Author.Tests.{eqb-true}
 use lib.Dec.{eqb}
 use lib.ListN.{length, drop}
+use Rattle.format.specs.declared.Settings.{Settings}
 use Rattle.format.specs.declared.Reading.{Reading}
 use Rattle.format.specs.declared.Area.{Area}
 use Rattle.format.specs.Packet.{Segment}
 use Rattle.format.specs.Dwell.{targetCount}
-use Rattle.format.specs.Sheet.{Record, recordOf, headerRecord, dwellRecord, targetRecord, targetRecords, pieceRecord, pieceRecords, missionRecords, dwellRecords, textRecords, opaqueRecords, jobRecords, testRecords, locationRecords, segmentRecords, packetRecords}
+use Rattle.format.specs.Sheet.{Record, recordOf, headerRecord, dwellRecord, targetRecord, targetRecords, pieceRecord, pieceRecords, dwellRecords, textRecords, opaqueRecords, jobRecords, segmentRecords, packetRecords}
 use Rattle.format.specs.Reader.{dwellsIn, targetsIn, readingOf, parsed, sheet}
+use Rattle.format.proofs.Types.{by-number}
 use Rattle.format.proofs.Records.{listed-sheet}
 use Rattle.demands.specs.Counts.{count, isKind, isLeader}
 use Rattle.demands.specs.Demands.{Counted}
@@ -65,19 +66,15 @@ module _ (g : ℕ → Bool) (c : Bool) (piece : g 6 ≡ false)
   counts-segment : (r : Reading) (s : Segment) → counts (segmentRecords r s) ≡ cond (eqb (s .type) 2) (cond (g 3) 1 0 + targetCount (s .body) * cond (g 4) 1 0) (cond c 1 0)
   unfolding segmentRecords jobRecords textRecords opaqueRecords
   counts-segment r s =
-      go (eqb (s .type) 1) (eqb (s .type) 2) (eqb (s .type) 5) (eqb (s .type) 6) (eqb (s .type) 10) (eqb (s .type) 13) refl refl
-    where
-      go : (t1 t2 t5 t6 t10 t13 : Bool) → eqb (s .type) 1 ≡ t1 → eqb (s .type) 2 ≡ t2
-          → counts (cond t1 (missionRecords (s .body)) (cond t2 (dwellRecords r (s .body)) (cond t5 (jobRecords r (s .body)) (cond t6 (textRecords (s .body)) (cond t10 (testRecords (s .body)) (cond t13 (locationRecords (s .body)) (opaqueRecords (s .type) (s .body))))))))
-          ≡ cond t2 (cond (g 3) 1 0 + targetCount (s .body) * cond (g 4) 1 0) (cond c 1 0)
-      go true true t5 t6 t10 t13 x y = absurd (omega (arith, eqb-true (s .type) 1 x, eqb-true (s .type) 2 y))
-      go true false t5 t6 t10 t13 x y = alone 2 _ mission
-      go false true t5 t6 t10 t13 x y = count-dwell r (s .body)
-      go false false true t6 t10 t13 x y = alone 8 _ job
-      go false false false true t10 t13 x y = with-pieces 5 _ _ _ text
-      go false false false false true t13 x y = alone 9 _ test
-      go false false false false false true x y = alone 10 _ location
-      go false false false false false false x y = with-pieces 7 _ _ _ other
+      by-number (λ (t : ℕ). counts (segmentRecords r (record { type = t; body = s .body })) ≡ cond (eqb t 2) (cond (g 3) 1 0 + targetCount (s .body) * cond (g 4) 1 0) (cond c 1 0))
+      (alone 2 _ mission)
+      (count-dwell r (s .body))
+      (alone 8 _ job)
+      (with-pieces 5 _ _ _ text)
+      (alone 9 _ test)
+      (alone 10 _ location)
+      (λ t h1 h2 h5 h6 h10 h13. rw (h1, h2, h5, h6, h10, h13) (with-pieces 7 _ _ _ other))
+      (s .type)
 
 module _ (r : Reading) where
   -- each segment has one record that begins it
@@ -87,7 +84,7 @@ module _ (r : Reading) where
   leaders-are (s ∷ ss) =
       let e : 1 + length ss ≡ suc (length ss) = omega arith in
       count-append isLeader (segmentRecords r s) (packetRecords r ss)
-      ∙ ap₂ (λ (x y : ℕ). x + y) (counts-segment (λ k. not (eqb k 1) && not (eqb k 4 || eqb k 6)) true refl refl refl refl refl refl refl r s ∙ one (eqb (s .type) 2)) (leaders-are ss)
+      ∙ ap₂ (λ (x y : ℕ). x + y) (counts-segment (λ k. isLeader (record { kind = k; body = [] })) true refl refl refl refl refl refl refl r s ∙ one (eqb (s .type) 2)) (leaders-are ss)
       ∙ e
     where
       one : (b : Bool) → cond b (1 + targetCount (s .body) * 0) 1 ≡ 1
@@ -119,12 +116,12 @@ module _ (r : Reading) where
       all false = refl
 
 -- the counts of a reading's segments are those of the records of its sheet
-pub counts-are : (edition : ℕ) (l : List ℕ)
-    → Counted (sheet edition l) (length (parsed edition l .segments)) (dwellsIn (parsed edition l .segments)) (targetsIn (parsed edition l .segments)) (length (sheet edition l))
+pub counts-are : (settings : Settings) (l : List ℕ)
+    → Counted (sheet settings l) (length (parsed settings l .segments)) (dwellsIn (parsed settings l .segments)) (targetsIn (parsed settings l .segments)) (length (sheet settings l))
 unfolding count headerRecord recordOf
-counts-are edition l = record {
-  segments-are = rw (listed-sheet edition l) (sym (zero-add _ ∙ leaders-are (readingOf edition l) (parsed edition l .segments)));
-  dwells-are = rw (listed-sheet edition l) (sym (zero-add _ ∙ dwells-are (readingOf edition l) (parsed edition l .segments)));
-  targets-are = rw (listed-sheet edition l) (sym (zero-add _ ∙ targets-are (readingOf edition l) (parsed edition l .segments)));
+counts-are settings l = record {
+  segments-are = rw (listed-sheet settings l) (sym (zero-add _ ∙ leaders-are (readingOf settings l) (parsed settings l .segments)));
+  dwells-are = rw (listed-sheet settings l) (sym (zero-add _ ∙ dwells-are (readingOf settings l) (parsed settings l .segments)));
+  targets-are = rw (listed-sheet settings l) (sym (zero-add _ ∙ targets-are (readingOf settings l) (parsed settings l .segments)));
   length-is = refl;
 }

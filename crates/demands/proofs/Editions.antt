@@ -8,12 +8,13 @@ use mathlib.Core.List.{List, _∷_}
 use lib.ListN.{length, getD, take, drop, length-drop}
 use lib.Seq.{take-at}
 use Rattle.octets.specs.Layout.{over}
+use Rattle.format.specs.declared.Settings.{Settings}
 use Rattle.format.specs.declared.Check.{Check}
 use Rattle.format.specs.declared.Check.the-variants.{Passed, Failed}
 use Rattle.format.specs.declared.Answer.{Answer}
 use Rattle.format.specs.declared.Answer.the-variants.{Accepted, Refused}
 use Rattle.format.specs.Packet.{version}
-use Rattle.format.specs.Edition.{isOlder}
+use Rattle.format.specs.Edition.{asEdition, isOlder}
 use Rattle.format.specs.Sheet.{headerRecord, packetRecords, recordBytes}
 use Rattle.format.specs.Answer.{outcome, leftBy}
 use Rattle.format.specs.Rows.{firstRow, headerRows}
@@ -37,95 +38,95 @@ abbrev answerBy : Check → Parsed → ℕ → ℕ → Answer
 answerBy c p n m = elim c [ Passed ↦ segmentsAnswer p n m | Failed number field ↦ Refused number 0 field ]
 
 -- of the lent sheet, so many bytes as the answer says are the sheet
-pub read-sheet : (edition : ℕ) (l lent : List ℕ) (s d t n : ℕ) → read edition l lent .answer ≡ Accepted s d t n → take n (read edition l lent .left) ≡ sheet edition l
+pub read-sheet : (settings : Settings) (l lent : List ℕ) (s d t n : ℕ) → read settings l lent .answer ≡ Accepted s d t n → take n (read settings l lent .left) ≡ sheet settings l
 unfolding read leftBy over
-read-sheet edition l lent s d t n a =
-    rw a (take-at (sheet edition l) (drop (length (sheet edition l)) lent) n (same-length _ _ _ _ s d t n (read-only edition l lent s d t n a .1)))
+read-sheet settings l lent s d t n a =
+    rw a (take-at (sheet settings l) (drop (length (sheet settings l)) lent) n (same-length _ _ _ _ s d t n (read-only settings l lent s d t n a .1)))
 
 -- the header's rows are the same in both readings
-header-same : (l : List ℕ) → firstRow (headerRows 1 l) ≡ firstRow (headerRows 3 l)
+header-same : (l : List ℕ) → firstRow (headerRows (asEdition 1) l) ≡ firstRow (headerRows (asEdition 3) l)
 unfolding headerRows firstRow
 header-same l = refl
 
 module _ (l : List ℕ) (version-3 : version l ≡ 3) where
   -- the Edition 1 reading of a version 3 packet is the older one
-  older : isOlder (readingOf 1 l) ≡ true
+  older : isOlder (readingOf (asEdition 1) l) ≡ true
   unfolding isOlder
   older = rw version-3
 
   -- and the Edition 3 reading is not
-  newer : isOlder (readingOf 3 l) ≡ false
+  newer : isOlder (readingOf (asEdition 3) l) ≡ false
   unfolding isOlder
   newer = refl
 
   -- the Edition 1 walk over the packet goes by what is new in it
-  walks : parsed 3 l .ending ≡ Passed → Older 1 (parsed 1 l) (parsed 3 l) (firstNew 1 (parsed 3 l .segments))
+  walks : parsed (asEdition 3) l .ending ≡ Passed → Older 1 (parsed (asEdition 1) l) (parsed (asEdition 3) l) (firstNew 1 (parsed (asEdition 3) l .segments))
   unfolding parsed
-  walks e = older-walk (readingOf 1 l) (readingOf 3 l) older refl (length (drop 32 l)) 1 (drop 32 l) e
+  walks e = older-walk (readingOf (asEdition 1) l) (readingOf (asEdition 3) l) older refl (length (drop 32 l)) 1 (drop 32 l) e
 
   -- where nothing is new, both walks are the same
-  module _ (same : parsed 1 l ≡ parsed 3 l) (short : length (drop 32 l) ≤ 65536) where
+  module _ (same : parsed (asEdition 1) l ≡ parsed (asEdition 3) l) (short : length (drop 32 l) ≤ 65536) where
     -- then the records of the two sheets are alike
-    sheets-alike : AllAlike (headerRecord l ∷ packetRecords (readingOf 1 l) (parsed 1 l .segments)) (headerRecord l ∷ packetRecords (readingOf 3 l) (parsed 3 l .segments))
+    sheets-alike : AllAlike (headerRecord l ∷ packetRecords (readingOf (asEdition 1) l) (parsed (asEdition 1) l .segments)) (headerRecord l ∷ packetRecords (readingOf (asEdition 3) l) (parsed (asEdition 3) l .segments))
     unfolding parsed
-    sheets-alike = rw same (next (header-alike l) (packet-alike (readingOf 1 l) (readingOf 3 l) older newer (parsed 3 l .segments) (parse-sound (readingOf 3 l) (length (drop 32 l)) (drop 32 l) short)))
+    sheets-alike = rw same (next (header-alike l) (packet-alike (readingOf (asEdition 1) l) (readingOf (asEdition 3) l) older newer (parsed (asEdition 3) l .segments) (parse-sound (readingOf (asEdition 3) l) (length (drop 32 l)) (drop 32 l) short)))
 
     -- so the sheets are as long
-    sheets-length : length (sheet 1 l) ≡ length (sheet 3 l)
+    sheets-length : length (sheet (asEdition 1) l) ≡ length (sheet (asEdition 3) l)
     unfolding sheet
     sheets-length = alike-length sheets-alike
 
     -- the older sheet is the newer one withheld
-    sheet-withheld : sheet 1 l ≡ withheldSheet (sheet 3 l)
+    sheet-withheld : sheet (asEdition 1) l ≡ withheldSheet (sheet (asEdition 3) l)
     unfolding withheldSheet sheet
-    sheet-withheld = ap recordBytes (alike-withheld sheets-alike) ∙ ap (λ (x : Listed). recordBytes (withheldRecords (x .records))) (sym (listed-sheet 3 l))
+    sheet-withheld = ap recordBytes (alike-withheld sheets-alike) ∙ ap (λ (x : Listed). recordBytes (withheldRecords (x .records))) (sym (listed-sheet (asEdition 3) l))
 
     -- that is, byte by byte
-    sheet-bytes : (i : ℕ) → getD (sheet 1 l) i 0 ≡ cond (isWithheldAt (listed (sheet 3 l) .records) i) 0 (getD (sheet 3 l) i 0)
+    sheet-bytes : (i : ℕ) → getD (sheet (asEdition 1) l) i 0 ≡ cond (isWithheldAt (listed (sheet (asEdition 3) l) .records) i) 0 (getD (sheet (asEdition 3) l) i 0)
     unfolding sheet
-    sheet-bytes i = ap (λ (x : List ℕ). getD x i 0) sheet-withheld ∙ withheld-at (sheet 3 l) (ap (λ (x : Listed). recordBytes (x .records)) (listed-sheet 3 l)) i
+    sheet-bytes i = ap (λ (x : List ℕ). getD x i 0) sheet-withheld ∙ withheld-at (sheet (asEdition 3) l) (ap (λ (x : Listed). recordBytes (x .records)) (listed-sheet (asEdition 3) l)) i
 
     -- and filled in it is the newer one
-    sheet-filled : filledIn (sheet 1 l) (sheet 3 l) ≡ sheet 3 l
+    sheet-filled : filledIn (sheet (asEdition 1) l) (sheet (asEdition 3) l) ≡ sheet (asEdition 3) l
     unfolding filledIn sheet
-    sheet-filled = ap₂ (λ (x y : Listed). recordBytes (filledRecords (x .records) (y .records))) (listed-sheet 1 l) (listed-sheet 3 l) ∙ ap recordBytes (alike-filled sheets-alike)
+    sheet-filled = ap₂ (λ (x y : Listed). recordBytes (filledRecords (x .records) (y .records))) (listed-sheet (asEdition 1) l) (listed-sheet (asEdition 3) l) ∙ ap recordBytes (alike-filled sheets-alike)
 
     -- the answers are the same
-    answers-same : (m : ℕ) → readingAnswer 1 l m ≡ readingAnswer 3 l m
+    answers-same : (m : ℕ) → readingAnswer (asEdition 1) l m ≡ readingAnswer (asEdition 3) l m
     unfolding readingAnswer
     answers-same m =
-        ap (λ (c : Check). answerBy c (parsed 1 l) (length (sheet 1 l)) m) (header-same l)
-        ∙ ap₂ (λ (p : Parsed) (n : ℕ). answerBy (firstRow (headerRows 3 l)) p n m) same sheets-length
+        ap (λ (c : Check). answerBy c (parsed (asEdition 1) l) (length (sheet (asEdition 1) l)) m) (header-same l)
+        ∙ ap₂ (λ (p : Parsed) (n : ℕ). answerBy (firstRow (headerRows (asEdition 3) l)) p n m) same sheets-length
 
   -- where something new is found, the answer says where
-  answer-new : (m segment field : ℕ) → firstRow (headerRows 3 l) ≡ Passed → parsed 1 l .ending ≡ Failed 15 field → segment ≡ 1 + length (parsed 1 l .segments) → readingAnswer 1 l m ≡ Refused 15 segment field
+  answer-new : (m segment field : ℕ) → firstRow (headerRows (asEdition 3) l) ≡ Passed → parsed (asEdition 1) l .ending ≡ Failed 15 field → segment ≡ 1 + length (parsed (asEdition 1) l .segments) → readingAnswer (asEdition 1) l m ≡ Refused 15 segment field
   unfolding readingAnswer
   answer-new m segment field h e s =
-      let number : length (parsed 1 l .segments) + 1 ≡ segment = omega arith in
+      let number : length (parsed (asEdition 1) l .segments) + 1 ≡ segment = omega arith in
       rw (header-same l, h, e, number, readingAnswer)
 
 -- demand 3, of the definitions
 pub demand-3 : Demand3
 unfolding read leftBy
-demand-3 l lent1 lent3 s d t n both = go (firstNew 1 (parsed 3 l .segments)) (walks l v (known .ending))
+demand-3 l lent1 lent3 s d t n both = go (firstNew 1 (parsed (asEdition 3) l .segments)) (walks l v (known .ending))
   where
     v : version l ≡ 3
     v = both .version-3
 
-    a3 : read 3 l lent3 .answer ≡ Accepted s d t n
+    a3 : read (asEdition 3) l lent3 .answer ≡ Accepted s d t n
     a3 = both .edition-3
 
-    known : Acceptable 3 l (length lent3)
-    known = read-only 3 l lent3 s d t n a3 .0
+    known : Acceptable (asEdition 3) l (length lent3)
+    known = read-only (asEdition 3) l lent3 s d t n a3 .0
 
     short : length (drop 32 l) ≤ 65536
-    short = rw length-drop (omega (arith, header-sized 3 l (known .header) .short))
+    short = rw length-drop (omega (arith, header-sized (asEdition 3) l (known .header) .short))
 
-    alike : parsed 1 l ≡ parsed 3 l → ReadAlike l lent1 lent3 s d t n
+    alike : parsed (asEdition 1) l ≡ parsed (asEdition 3) l → ReadAlike l lent1 lent3 s d t n
     alike same =
-        let a1 : read 1 l lent1 .answer ≡ Accepted s d t n = answers-same l v same short (length lent1) ∙ ap (readingAnswer 3 l) (both .same-length) ∙ a3 in
-        let left1 = read-sheet 1 l lent1 s d t n a1 in
-        let left3 = read-sheet 3 l lent3 s d t n a3 in
+        let a1 : read (asEdition 1) l lent1 .answer ≡ Accepted s d t n = answers-same l v same short (length lent1) ∙ ap (readingAnswer (asEdition 3) l) (both .same-length) ∙ a3 in
+        let left1 = read-sheet (asEdition 1) l lent1 s d t n a1 in
+        let left3 = read-sheet (asEdition 3) l lent3 s d t n a3 in
         record {
           same-answer = a1;
           same-but = left1 ∙ sheet-withheld l v same short ∙ ap withheldSheet (sym left3);
@@ -135,8 +136,8 @@ demand-3 l lent1 lent3 s d t n both = go (firstNew 1 (parsed 3 l .segments)) (wa
               ∙ demand-2 .sheets-are-written l lent3 buffer s d t n (both .are-bytes) a3 h;
         }
 
-    go : (new : New) → Older 1 (parsed 1 l) (parsed 3 l) new → OlderReading l lent1 lent3 s d t n new
+    go : (new : New) → Older 1 (parsed (asEdition 1) l) (parsed (asEdition 3) l) new → OlderReading l lent1 lent3 s d t n new
     go nothing same = alike same
     go (found segment field) w =
-        ap (λ (a : Answer). outcome a (leftBy a (sheet 1 l) lent1))
+        ap (λ (a : Answer). outcome a (leftBy a (sheet (asEdition 1) l) lent1))
         (answer-new l v (length lent1) segment field (known .header) (w .0) (w .1))

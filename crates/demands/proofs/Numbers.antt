@@ -1,6 +1,6 @@
 -- Every number of an answer fits 32 bits, whatever the edition, the bytes and the lent memory, so a caller in C has room for each. The
 -- rows and the fields that a refusal names are those of document 01. A packet that gets past its header has at most 65,536 bytes, so it has
--- no more segments than that, and its sheet at most 736,953; the sheet has a record for whatever an acceptance counts.
+-- no more segments than that, and its sheet is no longer than the longest; the sheet has a record for whatever an acceptance counts.
 -- Assumes nothing.
 use Prim.Native.Nat.{ℕ, zero, suc, _+_, _^_, _≤_, _<_}
 use native.Mathlib.Omega.{arith}
@@ -14,6 +14,7 @@ use Rattle.octets.specs.Layout.{field as fieldOf}
 use Rattle.text.specs.Text.{isText, textFault}
 use Rattle.mask.specs.Fields.{announced}
 use Rattle.mask.specs.Mask.{firstFrom, isFault, lowestFault, isGap, d28to30, newInMask}
+use Rattle.format.specs.declared.Settings.{Settings}
 use Rattle.format.specs.declared.Reading.{Reading}
 use Rattle.format.specs.declared.Area.{Area}
 use Rattle.format.specs.declared.Check.{Check}
@@ -22,22 +23,17 @@ use Rattle.format.specs.declared.Answer.{Answer}
 use Rattle.format.specs.declared.Answer.the-variants.{Accepted, Refused}
 use Rattle.format.specs.Packet.{headerWidths, headerTexts, Segment, typeAt, sizeAt, bodyAt, missionWidths, missionTexts, jobWidths, jobTexts, freeTextWidths, freeTextTexts}
 use Rattle.format.specs.Dwell.{maskOf, dwellFields, targetCount, targetsOf, targetLength, areaOf}
-use Rattle.format.specs.Edition.{isOlder}
-use Rattle.format.specs.Sheet.{Record, bodyLength}
+use Rattle.format.specs.Edition.{asEdition, isOlder}
+use Rattle.format.specs.Sheet.{Record, bodyLength, longestSheet}
 use Rattle.format.specs.Answer.{numbersOf}
 use Rattle.format.specs.Rows.{Row, firstRow, headerRows, missionRows, targetRows, targetsRows, dwellRows, jobRows, textRows, keptRows, bodyRows, segmentRows}
 use Rattle.format.specs.Reader.{Parsed, onward, parse, dwellsIn, targetsIn, readingOf, parsed, sheet, segmentsAnswer, readingAnswer, read}
 use Rattle.format.specs.Writer.{Listed, list, listed, spell, sheetRows, writerRows, writerAnswer, writingAnswer, write}
-use Rattle.format.proofs.Rows.{first-passes, neither, both}
+use Rattle.format.proofs.Rows.{first-passes, either, neither, both}
 use Rattle.format.proofs.Acceptance.{header-sized}
 use Rattle.format.proofs.Longest.{sheet-longest}
 use Rattle.demands.specs.Counts.{count, isKind, isLeader}
 use Rattle.demands.proofs.Counts.{counts-are}
-
--- what holds of two things holds of the one that a test picks
-either : {A : Type 0} (P : A → Type 0) (t : Bool) {x y : A} → P x → P y → P (cond t x y)
-either P true h k = h
-either P false h k = k
 
 -- ---- the fields that are named
 
@@ -103,9 +99,9 @@ append-small none k = k
 append-small (more n f h) k = more n f (append-small h k)
 
 -- the call and the header
-header-small : (edition : ℕ) (l : List ℕ) → AllSmall (headerRows edition l)
+header-small : (settings : Settings) (l : List ℕ) → AllSmall (headerRows settings l)
 unfolding headerRows
-header-small edition l =
+header-small settings l =
     fixed tt tt (fixed tt tt (fixed tt tt (fixed tt tt (more tt (text-field headerWidths headerTexts l refl) none))))
 
 -- a mission
@@ -224,7 +220,7 @@ counted-within f x = omega (arith, count-within f (listed x .records), list-with
 -- each number of a list is at most the length of the longest sheet
 data AllWithin : List ℕ → Type 0 where
   no-number : AllWithin []
-  one-more : {n : ℕ} {ns : List ℕ} → n ≤ 736953 → AllWithin ns → AllWithin (n ∷ ns)
+  one-more : {n : ℕ} {ns : List ℕ} → n ≤ longestSheet → AllWithin ns → AllWithin (n ∷ ns)
 
 -- a zero before others
 zero-more : {ns : List ℕ} → AllWithin ns → AllWithin (0 ∷ ns)
@@ -237,21 +233,21 @@ within-fits (one-more h k) zero = omega arith
 within-fits (one-more h k) (suc i) = within-fits k i
 
 -- a refusal
-refused-within : (number segment field : ℕ) → (number ≤ 20) × IsField field → segment ≤ 736953 → AllWithin (numbersOf (Refused number segment field))
+refused-within : (number segment field : ℕ) → (number ≤ 20) × IsField field → segment ≤ longestSheet → AllWithin (numbersOf (Refused number segment field))
 unfolding numbersOf
 refused-within number segment field h k =
-    let n : number ≤ 736953 = omega (arith, h .0) in
-    let f : field ≤ 736953 = omega (arith, h .1) in
+    let n : number ≤ longestSheet = omega (arith, h .0) in
+    let f : field ≤ longestSheet = omega (arith, h .1) in
     one-more n (one-more k (one-more f (zero-more (zero-more (zero-more (zero-more no-number))))))
 
 -- an acceptance with the counts of a packet that is not too long, and a length
-accepted-within : (edition : ℕ) (l : List ℕ) (n : ℕ) → length l ≤ 65536 → n ≤ 736953
-    → AllWithin (numbersOf (Accepted (length (parsed edition l .segments)) (dwellsIn (parsed edition l .segments)) (targetsIn (parsed edition l .segments)) n))
+accepted-within : (settings : Settings) (l : List ℕ) (n : ℕ) → length l ≤ 65536 → n ≤ longestSheet
+    → AllWithin (numbersOf (Accepted (length (parsed settings l .segments)) (dwellsIn (parsed settings l .segments)) (targetsIn (parsed settings l .segments)) n))
 unfolding numbersOf
-accepted-within edition l n short h =
-    let c = counts-are edition l in
-    let x = sheet edition l in
-    let long = sheet-longest edition l short in
+accepted-within settings l n short h =
+    let c = counts-are settings l in
+    let x = sheet settings l in
+    let long = sheet-longest settings l short in
     zero-more (zero-more (zero-more
     (one-more (omega (arith, c .segments-are, counted-within isLeader x))
     (one-more (omega (arith, c .dwells-are, counted-within (isKind 3) x))
@@ -261,27 +257,27 @@ accepted-within edition l n short h =
 -- ---- the answers
 
 -- a reading, by the first row of the header and by how the walk over the segments ends
-reading-within : (edition : ℕ) (l : List ℕ) (lent : ℕ) → AllWithin (numbersOf (readingAnswer edition l lent))
+reading-within : (settings : Settings) (l : List ℕ) (lent : ℕ) → AllWithin (numbersOf (readingAnswer settings l lent))
 unfolding readingAnswer parsed Small
-reading-within edition l lent = go (firstRow (headerRows edition l)) refl (first-small (header-small edition l))
+reading-within settings l lent = go (firstRow (headerRows settings l)) refl (first-small (header-small settings l))
   where
     m : ℕ
-    m = length (sheet edition l)
+    m = length (sheet settings l)
 
-    walked : (length (parsed edition l .segments) ≤ length (drop 32 l)) × Small (parsed edition l .ending)
-    walked = parse-small (readingOf edition l) (length (drop 32 l)) (drop 32 l)
+    walked : (length (parsed settings l .segments) ≤ length (drop 32 l)) × Small (parsed settings l .ending)
+    walked = parse-small (readingOf settings l) (length (drop 32 l)) (drop 32 l)
 
-    ended : length l ≤ 65536 → (c : Check) → Small c → AllWithin (numbersOf (segmentsAnswer (record { segments = parsed edition l .segments; ending = c }) m lent))
+    ended : length l ≤ 65536 → (c : Check) → Small c → AllWithin (numbersOf (segmentsAnswer (record { segments = parsed settings l .segments; ending = c }) m lent))
     ended short Passed s =
         either (λ (a : Answer). AllWithin (numbersOf a)) (leb m lent)
-        (accepted-within edition l m short (sheet-longest edition l short))
+        (accepted-within settings l m short (sheet-longest settings l short))
         (refused-within 16 0 0 (lit≤ tt, lit≤ tt) (lit≤ tt))
     ended short (Failed number field) s =
-        refused-within number (length (parsed edition l .segments) + 1) field s (omega (arith, walked .0, length-drop 32 l))
+        refused-within number (length (parsed settings l .segments) + 1) field s (omega (arith, walked .0, length-drop 32 l))
 
-    go : (c : Check) → firstRow (headerRows edition l) ≡ c → Small c
-        → AllWithin (numbersOf (elim c [ Passed ↦ segmentsAnswer (parsed edition l) m lent | Failed number field ↦ Refused number 0 field ]))
-    go Passed e s = ended (header-sized edition l e .short) (parsed edition l .ending) (walked .1)
+    go : (c : Check) → firstRow (headerRows settings l) ≡ c → Small c
+        → AllWithin (numbersOf (elim c [ Passed ↦ segmentsAnswer (parsed settings l) m lent | Failed number field ↦ Refused number 0 field ]))
+    go Passed e s = ended (header-sized settings l e .short) (parsed settings l .ending) (walked .1)
     go (Failed number field) e s = refused-within number 0 field s (lit≤ tt)
 
 -- where no row applies to a sheet, the packet that it spells is not too long (row 19)
@@ -301,15 +297,15 @@ writing-within x lent = go (firstRow (writerRows x lent)) refl (first-small (wri
     go : (c : Check) → firstRow (writerRows x lent) ≡ c → Small c → AllWithin (numbersOf (writerAnswer x c))
     go Passed e s =
         let short = spelt-short x lent e in
-        accepted-within 3 (spell x) (length (spell x)) short (omega arith)
+        accepted-within (asEdition 3) (spell x) (length (spell x)) short (omega arith)
     go (Failed number field) e s = refused-within number 0 0 (s .0, lit≤ tt) (lit≤ tt)
 
 -- ---- the outcomes
 
 -- whatever is read, as any edition, onto any sheet
-pub read-numbers-fit : (edition : ℕ) (l lent : List ℕ) (i : ℕ) → getD (read edition l lent .numbers) i 0 < 2 ^ 32
+pub read-numbers-fit : (settings : Settings) (l lent : List ℕ) (i : ℕ) → getD (read settings l lent .numbers) i 0 < 2 ^ 32
 unfolding read
-read-numbers-fit edition l lent = within-fits (reading-within edition l (length lent))
+read-numbers-fit settings l lent = within-fits (reading-within settings l (length lent))
 
 -- whatever is written, into any buffer
 pub write-numbers-fit : (x lent : List ℕ) (i : ℕ) → getD (write x lent .numbers) i 0 < 2 ^ 32

@@ -5,24 +5,23 @@ use native.Mathlib.Omega.{arith}
 use mathlib.Core.Path.{_≡_, refl, sym, ap, ap₂, _∙_}
 use mathlib.Core.Bool.{true, false}
 use mathlib.Core.List.{List, [], _∷_, _++_}
-use borrow.Author.Tests.{ltb-false, not-false, eqb-true}
 use lib.Dec.{eqb}
-use lib.ListN.{length, take, drop, length-append}
+use lib.ListN.{length, take, length-append}
 use lib.Seq.{length-take-le}
 use Rattle.octets.specs.Layout.{pad, total, replaced, zeroed}
 use Rattle.octets.proofs.Layouts.{pad-same}
 use Rattle.mask.specs.Fields.{dwellWidths}
-use Rattle.mask.proofs.FullWidth.{length-full}
 use Rattle.format.specs.declared.Reading.{Reading}
 use Rattle.format.specs.declared.Area.{Area}
 use Rattle.format.specs.declared.Check.the-variants.{Passed}
-use Rattle.format.specs.Packet.{Segment, s2}
-use Rattle.format.specs.Dwell.{maskOf, dwellFields}
+use Rattle.format.specs.Packet.{Segment}
+use Rattle.format.specs.Dwell.{dwellFields}
 use Rattle.format.specs.Edition.{isOlder, shown, mark}
 use Rattle.format.specs.Sheet.{bodyLength, recordOf, headerRecord, dwellRecord, targetRecord, targetRecords, pieceRecord, pieceRecords, dwellRecords, textRecords, opaqueRecords, jobRecords, segmentRecords, packetRecords}
-use Rattle.format.specs.Rows.{firstRow, dwellRows, jobRows, bodyRows}
+use Rattle.format.specs.Rows.{firstRow, bodyRows}
 use Rattle.format.proofs.Types.{by-number}
-use Rattle.format.proofs.Rows.{first-passes}
+use Rattle.format.proofs.Bodies.{job-length, length-dwell}
+use Rattle.format.proofs.Dwells.{is-dwell}
 use Rattle.demands.specs.Filled.{dwellBodyWidths}
 use Rattle.format.proofs.Segments.{AllSound}
 use Rattle.demands.proofs.Withheld.{put-behind}
@@ -69,8 +68,7 @@ behind-mask a f h = put-behind a f (pad 2 []) 8 69 2 h
 
 -- the mask and D2 to D31 are 86 bytes
 dwell-length : (b : List ℕ) → 8 ≤ length b → length (take 8 b ++ dwellFields b) ≡ 86
-unfolding dwellFields total
-dwell-length b h = length-append (take 8 b) (dwellFields b) ∙ ap₂ _+_ (length-take-le 8 b h) (length-full (maskOf b) 2 dwellWidths (drop 8 b))
+dwell-length b h = length-append (take 8 b) (dwellFields b) ∙ ap₂ _+_ (length-take-le 8 b h) (length-dwell b)
 
 -- r1 is the older reading of a packet that r3 reads in full
 module _ (r1 r3 : Reading) (older : isOlder r1 ≡ true) (newer : isOlder r3 ≡ false) where
@@ -90,12 +88,12 @@ module _ (r1 r3 : Reading) (older : isOlder r1 ≡ true) (newer : isOlder r3 ≡
   -- the records of a segment are alike, whatever its type
   body-alike : (t : ℕ) (b : List ℕ) → firstRow (bodyRows r3 t b) ≡ Passed
       → AllAlike (segmentRecords r1 (record { type = t; body = b })) (segmentRecords r3 (record { type = t; body = b }))
-  unfolding segmentRecords bodyRows dwellRecords dwellRows jobRows textRecords opaqueRecords
+  unfolding segmentRecords bodyRows dwellRecords textRecords opaqueRecords
   body-alike t b =
       by-number (λ (t : ℕ). firstRow (bodyRows r3 t b) ≡ Passed → AllAlike (segmentRecords r1 (record { type = t; body = b })) (segmentRecords r3 (record { type = t; body = b })))
       (λ p. next (same-record 2 b refl refl) none)
-      (λ p. next (dwell-alike b (omega (arith, ltb-false (s2 b) 13 (first-passes _ _ p .0)))) (targets-alike _ _ _ _))
-      (λ p. job-alike b (omega (arith, eqb-true (s2 b) (5 + 68) (not-false _ (first-passes _ _ p .0)))))
+      (λ p. next (dwell-alike b (omega (arith, is-dwell r3 b p .exact))) (targets-alike _ _ _ _))
+      (λ p. job-alike b (job-length r3 b p))
       (λ p. next (same-record 5 _ refl refl) (pieces-alike _ _))
       (λ p. next (same-record 9 b refl refl) none)
       (λ p. next (same-record 10 b refl refl) none)

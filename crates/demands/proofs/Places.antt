@@ -12,7 +12,7 @@ use lib.Seq.{length-take-le, getD-take, getD-drop, getD-append-add}
 use Rattle.octets.specs.Layout.{pad, total, width, offset, replaced, zeroed}
 use Rattle.octets.proofs.Layouts.{length-pad, length-zeroed}
 use Rattle.format.specs.Sheet.{Record, bodyLength, recordBytes}
-use Rattle.format.specs.Writer.{list, listed}
+use Rattle.format.specs.Writer.{listed}
 use Rattle.format.proofs.Records.{Formed, AllFormed}
 use Rattle.format.proofs.Listing.{listed-formed}
 use Rattle.demands.specs.Filled.{dwellBodyWidths, jobBodyWidths, withheldRecord, withheldRecords, withheldSheet}

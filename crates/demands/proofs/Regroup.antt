@@ -22,30 +22,29 @@ use Rattle.format.specs.Dwell.{maskOf, dwellFields, areaOf, targetCount, target
 use Rattle.format.specs.Edition.{isOlder}
 use Rattle.format.specs.Sheet.{Record, bodyLength, recordOf, targetRecord, targetRecords, pieceRecord, pieceRecords, pieceCount, piecesOf, dwellRecords, textRecords, opaqueRecords, jobRecords, segmentRecords, packetRecords}
 use Rattle.format.specs.Rows.{firstRow, dwellRows}
-use Rattle.format.specs.Writer.{isFollower, typeOf, given, maskAfter, regroup}
+use Rattle.format.specs.Writer.{isFollower, typeOf, given, givenBehind, regroup}
+use Rattle.format.proofs.Followers.{follower-regrouped, begins-regrouped}
 use Rattle.format.proofs.Segments.{Sound, AllSound, by-rows}
 use Rattle.format.proofs.Dwells.{is-dwell}
 use Rattle.format.proofs.Bodies.{mission-length, job-length, kept-length, text-length, record-exact, dwell-exact, job-exact, text-exact, opaque-exact}
 
--- records that begin with no follower and give these segments: their regrouping goes by no mask
+-- records that begin with no follower and give these segments: their regrouping goes by no leader
 abbrev pub Settled : List Record → List Segment → Type 0
-Settled rs gs = (mask : ℕ) → regroup mask rs ≡ record { front = []; segments = gs }
+Settled rs gs = (leader : Record) → regroup leader rs ≡ record { front = []; segments = gs }
 
 -- a record that begins a segment, before what the records after it give
-leads : (q : Record) (rs : List Record) (mask : ℕ) (s : Segment) (front : List ℕ) (gs : List Segment)
-    → isFollower q ≡ false → regroup (maskAfter q) rs ≡ record { front = front; segments = gs }
-    → typeOf q ≡ s .type → given mask q ++ front ≡ s .body
-    → regroup mask (q ∷ rs) ≡ record { front = []; segments = s ∷ gs }
-unfolding regroup
-leads q rs mask s front gs f e t b =
-    rw (f, e) (ap₂ (λ (x : ℕ) (y : List ℕ). record { front = []; segments = record { type = x; body = y } ∷ gs }) t b)
+leads : (q : Record) (rs : List Record) (s : Segment) (front : List ℕ) (gs : List Segment)
+    → isFollower q ≡ false → regroup q rs ≡ record { front = front; segments = gs }
+    → typeOf q ≡ s .type → given q ++ front ≡ s .body
+    → Settled (q ∷ rs) (s ∷ gs)
+leads q rs s front gs f e t b leader =
+    rw (begins-regrouped leader q rs f, e) (ap₂ (λ (x : ℕ) (y : List ℕ). record { front = []; segments = record { type = x; body = y } ∷ gs }) t b)
 
 -- a follower, before what the records after it give
-follows : (q : Record) (rs : List Record) (mask : ℕ) (own front : List ℕ) (gs : List Segment)
-    → isFollower q ≡ true → regroup mask rs ≡ record { front = front; segments = gs } → given mask q ≡ own
-    → regroup mask (q ∷ rs) ≡ record { front = own ++ front; segments = gs }
-unfolding regroup
-follows q rs mask own front gs f e g = rw (f, e, g)
+follows : (leader q : Record) (rs : List Record) (own front : List ℕ) (gs : List Segment)
+    → isFollower q ≡ true → regroup leader rs ≡ record { front = front; segments = gs } → givenBehind leader q ≡ own
+    → regroup leader (q ∷ rs) ≡ record { front = own ++ front; segments = gs }
+follows leader q rs own front gs f e g = rw (follower-regrouped leader q rs f, e, g)
 
 -- ---- dwells and targets
 
@@ -63,111 +62,116 @@ dwell-given b h =
     (ap₂ (λ (m : ℕ) (y : List ℕ). announcedFields m 2 dwellWidths y) (be-taken 8 b c (omega arith)) (drop-at (take 8 b) c 8 n) ∙ f)
     ∙ sym (take-add 8 size b)
 
--- a target's record gives the bytes that it was made of
-target-given : (mask : ℕ) (area : Area) (t : List ℕ) → targetLength mask ≤ length t → given mask (targetRecord mask area t) ≡ take (targetLength mask) t
-unfolding given targetRecord recordOf bodyLength targetFields total
-target-given mask area t h =
-    let n : 44 ≡ length (fullFields mask (d32 1) targetWidths t) + 8 = rw (length-full mask (d32 1) targetWidths t) in
-    rw (append-assoc, pad-append 44 8 (fullFields mask (d32 1) targetWidths t) _ n) (announced-full mask (d32 1) targetWidths t _ h)
+-- targets behind a record that begins with their mask
+module _ (leader : Record) (mask : ℕ) (masked : maskOf (leader .body) ≡ mask) (area : Area) where
+  -- a target's record gives the bytes that it was made of
+  target-given : (t : List ℕ) → targetLength mask ≤ length t → givenBehind leader (targetRecord mask area t) ≡ take (targetLength mask) t
+  unfolding givenBehind targetRecord recordOf bodyLength targetFields total maskOf
+  target-given t h =
+      let f = fullFields mask (d32 1) targetWidths t in
+      let rest = bodyLength 4 - total targetWidths in
+      let n : bodyLength 4 ≡ length f + rest = rw (length-full mask (d32 1) targetWidths t) in
+      let fields-first : (y : List ℕ) → pad (bodyLength 4) (f ++ y) ≡ f ++ pad rest y = λ y. pad-append (bodyLength 4) rest f y n in
+      rw masked (simp (append-assoc, fields-first) (announced-full mask (d32 1) targetWidths t _ h))
 
--- targets in a row give theirs, before what follows them
-targets-regrouped : (mask : ℕ) (area : Area) (n : ℕ) (t : List ℕ) (rs : List Record) (gs : List Segment) → n * targetLength mask ≤ length t → Settled rs gs
-    → regroup mask (targetRecords mask area n t ++ rs) ≡ record { front = take (n * targetLength mask) t; segments = gs }
-unfolding targetRecords targetRecord recordOf
-targets-regrouped mask area zero t rs gs h s = rw zero-mul (s mask)
-targets-regrouped mask area (suc n) t rs gs h s =
-    let u = targetLength mask in
-    let e : suc n * u ≡ u + n * u = omega arith in
-    rw (e, take-add u (n * u) t)
-    (follows (targetRecord mask area t) _ mask _ _ gs refl (targets-regrouped mask area n (drop u t) rs gs (rw length-drop (omega arith)) s) (target-given mask area t (omega arith)))
+  -- targets in a row give theirs, before what follows them
+  targets-regrouped : (n : ℕ) (t : List ℕ) (rs : List Record) (gs : List Segment) → n * targetLength mask ≤ length t → Settled rs gs
+      → regroup leader (targetRecords mask area n t ++ rs) ≡ record { front = take (n * targetLength mask) t; segments = gs }
+  unfolding targetRecords targetRecord recordOf
+  targets-regrouped zero t rs gs h s = rw zero-mul (s leader)
+  targets-regrouped (suc n) t rs gs h s =
+      let u = targetLength mask in
+      let e : suc n * u ≡ u + n * u = omega arith in
+      rw (e, take-add u (n * u) t)
+      (follows leader (targetRecord mask area t) _ _ _ gs refl (targets-regrouped n (drop u t) rs gs (rw length-drop (omega arith)) s) (target-given t (omega arith)))
 
 -- ---- pieces
 
 -- a piece's record gives the bytes that it carries
-piece-given : (mask : ℕ) (b : List ℕ) → given mask (pieceRecord b) ≡ take 32 b
-unfolding given pieceRecord recordOf bodyLength pad
-piece-given mask b =
+piece-given : (leader : Record) (b : List ℕ) → givenBehind leader (pieceRecord b) ≡ take 32 b
+unfolding givenBehind pieceRecord recordOf bodyLength pad
+piece-given leader b =
     let n : length (take 32 b) ≡ min 32 (length b) = length-take 32 b in
     ap (λ (k : ℕ). take k (pad 32 (take 32 b))) (sym n) ∙ take-pad 32 (take 32 b) (omega arith)
 
 -- pieces in a row give theirs
-pieces-front : (mask n : ℕ) (b : List ℕ) (rs : List Record) (gs : List Segment) → Settled rs gs
-    → regroup mask (pieceRecords n b ++ rs) ≡ record { front = take (n * 32) b; segments = gs }
+pieces-front : (leader : Record) (n : ℕ) (b : List ℕ) (rs : List Record) (gs : List Segment) → Settled rs gs
+    → regroup leader (pieceRecords n b ++ rs) ≡ record { front = take (n * 32) b; segments = gs }
 unfolding pieceRecords pieceRecord recordOf
-pieces-front mask zero b rs gs s = s mask
-pieces-front mask (suc n) b rs gs s =
+pieces-front leader zero b rs gs s = s leader
+pieces-front leader (suc n) b rs gs s =
     let e : suc n * 32 ≡ 32 + n * 32 = omega arith in
     rw (e, take-add 32 (n * 32) b)
-    (follows (pieceRecord b) _ mask _ _ gs refl (pieces-front mask n (drop 32 b) rs gs s) (piece-given mask b))
+    (follows leader (pieceRecord b) _ _ _ gs refl (pieces-front leader n (drop 32 b) rs gs s) (piece-given leader b))
 
 -- all pieces together give all that they carry
-pieces-regrouped : (mask : ℕ) (b : List ℕ) (rs : List Record) (gs : List Segment) → Settled rs gs
-    → regroup mask (piecesOf b ++ rs) ≡ record { front = b; segments = gs }
+pieces-regrouped : (leader : Record) (b : List ℕ) (rs : List Record) (gs : List Segment) → Settled rs gs
+    → regroup leader (piecesOf b ++ rs) ≡ record { front = b; segments = gs }
 unfolding pieceCount
-pieces-regrouped mask b rs gs s =
-    pieces-front mask ((length b + 31) / 32) b rs gs s
+pieces-regrouped leader b rs gs s =
+    pieces-front leader ((length b + 31) / 32) b rs gs s
     ∙ ap (λ (x : List ℕ). record { front = x; segments = gs }) (take-all ((length b + 31) / 32 * 32) b (omega arith))
 
 -- ---- the records of each type of segment, before others
 
 module _ (s : Segment) (rs : List Record) (gs : List Segment) (settled : Settled rs gs) where
   -- a segment that is kept in one record, as its bytes
-  whole-regrouped : (q : Record) → isFollower q ≡ false → typeOf q ≡ s .type → ((mask : ℕ) → given mask q ≡ s .body) → Settled (q ∷ rs) (s ∷ gs)
-  whole-regrouped q f t g mask = leads q rs mask s [] gs f (settled (maskAfter q)) t (append-nil (given mask q) ∙ g mask)
+  whole-regrouped : (q : Record) → isFollower q ≡ false → typeOf q ≡ s .type → given q ≡ s .body → Settled (q ∷ rs) (s ∷ gs)
+  whole-regrouped q f t g = leads q rs s [] gs f (settled q) t (append-nil (given q) ∙ g)
 
   -- a dwell with its targets
   dwell-regrouped : (r : Reading) → isOlder r ≡ false → s .type ≡ 2 → firstRow (dwellRows r (s .body)) ≡ Passed → Settled (dwellRecords r (s .body) ++ rs) (s ∷ gs)
-  unfolding dwellRecords typeOf maskAfter targetsOf given maskOf
-  dwell-regrouped r o t e mask =
+  unfolding dwellRecords typeOf targetsOf given maskOf
+  dwell-regrouped r o t e =
       let b = s .body in
       let from = 8 + announcedLength (maskOf b) 2 dwellWidths in
       let size = targetCount b * targetLength (maskOf b) in
       let n : length b ≡ from + size = is-dwell r b e .exact in
-      let m : be 8 (take 8 b ++ (dwellFields b ++ 1 ∷ [])) ≡ maskOf b = be-taken 8 b (dwellFields b ++ 1 ∷ []) (omega arith) in
+      let m : maskOf (take 8 b ++ (dwellFields b ++ 1 ∷ [])) ≡ maskOf b = be-taken 8 b (dwellFields b ++ 1 ∷ []) (omega arith) in
       let all : take from b ++ take size (drop from b) ≡ b = sym (take-add from size b) ∙ take-all (from + size) b (omega arith) in
       rw (dwell-exact r b o (omega arith))
-      (leads _ _ mask s (take size (drop from b)) gs refl (rw m (targets-regrouped (maskOf b) (areaOf (dwellFields b)) (targetCount b) (drop from b) rs gs (rw length-drop (omega arith)) settled)) (sym t)
+      (leads _ _ s (take size (drop from b)) gs refl (targets-regrouped _ (maskOf b) m (areaOf (dwellFields b)) (targetCount b) (drop from b) rs gs (rw length-drop (omega arith)) settled) (sym t)
       (ap (λ (x : List ℕ). x ++ take size (drop from b)) (dwell-given b (omega arith)) ∙ all))
 
   -- a text with its pieces
   text-regrouped : s .type ≡ 6 → 20 ≤ length (s .body) → Settled (textRecords (s .body) ++ rs) (s ∷ gs)
   unfolding textRecords given typeOf
-  text-regrouped t h mask =
+  text-regrouped t h =
       let b = s .body in
       let n : length (take 20 b) ≡ 20 = length-take-le 20 b h in
       rw (text-exact b (length b - 20) h)
-      (leads _ _ mask s (drop 20 b) gs refl (pieces-regrouped _ (drop 20 b) rs gs settled) (sym t)
+      (leads _ _ s (drop 20 b) gs refl (pieces-regrouped _ (drop 20 b) rs gs settled) (sym t)
       (ap (λ (x : List ℕ). x ++ drop 20 b) (take-at (take 20 b) (bytes 4 (length b - 20)) 20 n) ∙ take-append-drop 20 b))
 
   -- an opaque segment with its pieces
   opaque-regrouped : Settled (opaqueRecords (s .type) (s .body) ++ rs) (s ∷ gs)
   unfolding opaqueRecords given typeOf
-  opaque-regrouped mask =
-      rw (opaque-exact (s .type) (length (s .body))) (leads _ _ mask s (s .body) gs refl (pieces-regrouped _ (s .body) rs gs settled) refl refl)
+  opaque-regrouped =
+      rw (opaque-exact (s .type) (length (s .body))) (leads _ _ s (s .body) gs refl (pieces-regrouped _ (s .body) rs gs settled) refl refl)
 
   -- any segment
   pub segment-regrouped : (r : Reading) → isOlder r ≡ false → Sound r s → Settled (segmentRecords r s ++ rs) (s ∷ gs)
   unfolding jobRecords bodyLength given typeOf
   segment-regrouped r o w =
       by-rows (λ (qs : List Record). Settled (qs ++ rs) (s ∷ gs)) r s (w .rows)
-      (λ t e. kept 2 (mission-length (s .body) e) refl (sym t) (λ mask. refl))
+      (λ t e. kept 2 (mission-length (s .body) e) refl (sym t) refl)
       (λ t e. dwell-regrouped r o t e)
       (λ t e. job t (job-length r (s .body) e))
       (λ t e. text-regrouped t (text-length (s .body) e))
-      (λ t e. kept 9 (kept-length 14 (s .body) e) refl (sym t) (λ mask. refl))
-      (λ t e. kept 10 (kept-length 23 (s .body) e) refl (sym t) (λ mask. refl))
+      (λ t e. kept 9 (kept-length 14 (s .body) e) refl (sym t) refl)
+      (λ t e. kept 10 (kept-length 23 (s .body) e) refl (sym t) refl)
       opaque-regrouped
     where
       kept : (kind : ℕ) → length (s .body) ≡ bodyLength kind → isFollower (record { kind = kind; body = s .body }) ≡ false
-          → typeOf (record { kind = kind; body = s .body }) ≡ s .type → ((mask : ℕ) → given mask (record { kind = kind; body = s .body }) ≡ s .body)
+          → typeOf (record { kind = kind; body = s .body }) ≡ s .type → given (record { kind = kind; body = s .body }) ≡ s .body
           → Settled (recordOf kind (s .body) ∷ rs) (s ∷ gs)
       kept kind n f t g = rw (record-exact kind (s .body) n) (whole-regrouped _ f t g)
 
       job : s .type ≡ 5 → length (s .body) ≡ 68 → Settled (jobRecords r (s .body) ++ rs) (s ∷ gs)
-      job t n = rw (job-exact r (s .body) o n) (whole-regrouped _ refl (sym t) (λ mask. take-at (s .body) (1 ∷ []) 68 n))
+      job t n = rw (job-exact r (s .body) o n) (whole-regrouped _ refl (sym t) (take-at (s .body) (1 ∷ []) 68 n))
 
 -- the segments of a packet come back from its records
 pub packet-regrouped : (r : Reading) (ss : List Segment) → isOlder r ≡ false → AllSound r ss → Settled (packetRecords r ss) ss
 unfolding packetRecords regroup
-packet-regrouped r [] o w mask = refl
-packet-regrouped r (s ∷ ss) o w mask = segment-regrouped s (packetRecords r ss) ss (packet-regrouped r ss o (w .1)) r o (w .0) mask
+packet-regrouped r [] o w = λ leader. refl
+packet-regrouped r (s ∷ ss) o w = segment-regrouped s (packetRecords r ss) ss (packet-regrouped r ss o (w .1)) r o (w .0)

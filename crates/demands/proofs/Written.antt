@@ -14,11 +14,12 @@ use lib.Seq.{take-at, getD-drop}
 use Rattle.octets.specs.Octets.{Bytes}
 use Rattle.octets.specs.Layout.{over}
 use Rattle.octets.proofs.Layouts.{pad-take}
+use Rattle.format.specs.declared.Settings.{Settings}
 use Rattle.format.specs.declared.Check.{Check}
 use Rattle.format.specs.declared.Check.the-variants.{Passed, Failed}
 use Rattle.format.specs.declared.Answer.{Answer}
 use Rattle.format.specs.declared.Answer.the-variants.{Accepted, Refused}
-use Rattle.format.specs.Edition.{isOlder}
+use Rattle.format.specs.Edition.{asEdition, isOlder}
 use Rattle.format.specs.Sheet.{bodyLength, recordOf, headerRecord, packetRecords}
 use Rattle.format.specs.Answer.{Outcome, outcome, leftBy}
 use Rattle.format.specs.Rows.{firstRow}
@@ -39,53 +40,53 @@ use Rattle.format.proofs.Acceptance.{no-refusal, same-counts, same-length, Acce
 
 -- ---- from a packet to its sheet and back
 
-module _ (l : List ℕ) (lent : ℕ) (a : Acceptable 3 l lent) where
+module _ (l : List ℕ) (lent : ℕ) (a : Acceptable (asEdition 3) l lent) where
   -- the Edition 3 reading is never the older one
-  newest : isOlder (readingOf 3 l) ≡ false
+  newest : isOlder (readingOf (asEdition 3) l) ≡ false
   unfolding isOlder
   newest = refl
 
   -- no row applies to its segments
-  sound : AllSound (readingOf 3 l) (parsed 3 l .segments)
+  sound : AllSound (readingOf (asEdition 3) l) (parsed (asEdition 3) l .segments)
   unfolding parsed
-  sound = parse-sound (readingOf 3 l) (length (drop 32 l)) (drop 32 l) (rw length-drop (omega (arith, header-sized 3 l (a .header) .short)))
+  sound = parse-sound (readingOf (asEdition 3) l) (length (drop 32 l)) (drop 32 l) (rw length-drop (omega (arith, header-sized (asEdition 3) l (a .header) .short)))
 
   -- the sheet of an accepted packet spells that packet
-  spell-sheet : Bytes l → spell (sheet 3 l) ≡ l
+  spell-sheet : Bytes l → spell (sheet (asEdition 3) l) ≡ l
   unfolding spell spellRecords headerRecord recordOf bodyLength parsed
   spell-sheet b =
-      rw (listed-sheet 3 l)
-      (ap₂ (λ (x y : List ℕ). x ++ y) (pad-take 32 l (header-sized 3 l (a .header) .long))
-      (ap (λ (x : Regrouped). segmentsBytes (x .segments)) (packet-regrouped (readingOf 3 l) (parsed 3 l .segments) newest sound 0)
-      ∙ parse-back (readingOf 3 l) (length (drop 32 l)) (drop 32 l) (le-refl _) (λ i. rw getD-drop (b (32 + i))) (a .ending))
+      rw (listed-sheet (asEdition 3) l)
+      (ap₂ (λ (x y : List ℕ). x ++ y) (pad-take 32 l (header-sized (asEdition 3) l (a .header) .long))
+      (ap (λ (x : Regrouped). segmentsBytes (x .segments)) (packet-regrouped (readingOf (asEdition 3) l) (parsed (asEdition 3) l .segments) newest sound (headerRecord l))
+      ∙ parse-back (readingOf (asEdition 3) l) (length (drop 32 l)) (drop 32 l) (le-refl _) (λ i. rw getD-drop (b (32 + i))) (a .ending))
       ∙ take-append-drop 32 l)
 
   -- the records of the sheet begin with the one header
-  headed : isHeaded (headerRecord l ∷ packetRecords (readingOf 3 l) (parsed 3 l .segments)) ≡ true
+  headed : isHeaded (headerRecord l ∷ packetRecords (readingOf (asEdition 3) l) (parsed (asEdition 3) l .segments)) ≡ true
   unfolding isHeaded headerRecord recordOf
-  headed = packet-no-header (readingOf 3 l) (parsed 3 l .segments)
+  headed = packet-no-header (readingOf (asEdition 3) l) (parsed (asEdition 3) l .segments)
 
   -- and are complete
-  complete : Complete (headerRecord l ∷ packetRecords (readingOf 3 l) (parsed 3 l .segments))
+  complete : Complete (headerRecord l ∷ packetRecords (readingOf (asEdition 3) l) (parsed (asEdition 3) l .segments))
   unfolding isComplete headerRecord recordOf calledFor
-  complete = packet-complete (readingOf 3 l) (parsed 3 l .segments) newest sound
+  complete = packet-complete (readingOf (asEdition 3) l) (parsed (asEdition 3) l .segments) newest sound
 
   -- the packet reads back to its sheet
-  back : readsBack l (sheet 3 l) ≡ true
+  back : readsBack l (sheet (asEdition 3) l) ≡ true
   unfolding readsBack
-  back = rw (accepted-when 3 l (length (sheet 3 l)) (record { header = a .header; ending = a .ending; fits = le-refl _ }), same-itself (sheet 3 l))
+  back = rw (accepted-when (asEdition 3) l (length (sheet (asEdition 3) l)) (record { header = a .header; ending = a .ending; fits = le-refl _ }), same-itself (sheet (asEdition 3) l))
 
   -- so none of the writer's rows applies to the sheet
-  sheet-passes : (cap : ℕ) → Bytes l → length l ≤ cap → firstRow (writerRows (sheet 3 l) cap) ≡ Passed
+  sheet-passes : (cap : ℕ) → Bytes l → length l ≤ cap → firstRow (writerRows (sheet (asEdition 3) l) cap) ≡ Passed
   unfolding firstRow writerRows sheetRows
   sheet-passes cap b h =
-      rw (spell-sheet b, listed-sheet 3 l, headed, complete, le-ltb 65536 (length l) (header-sized 3 l (a .header) .short), back, le-ltb cap (length l) h)
+      rw (spell-sheet b, listed-sheet (asEdition 3) l, headed, complete, le-ltb 65536 (length l) (header-sized (asEdition 3) l (a .header) .short), back, le-ltb cap (length l) h)
 
 -- ---- what the writer answers
 
 -- an acceptance with the counts of the packet l
 abbrev countsOf : List ℕ → ℕ → Answer
-countsOf l n = Accepted (length (parsed 3 l .segments)) (dwellsIn (parsed 3 l .segments)) (targetsIn (parsed 3 l .segments)) n
+countsOf l n = Accepted (length (parsed (asEdition 3) l .segments)) (dwellsIn (parsed (asEdition 3) l .segments)) (targetsIn (parsed (asEdition 3) l .segments)) n
 
 module _ (x buffer : List ℕ) where
   -- the answer by the first row that applies
@@ -116,41 +117,41 @@ module _ (x buffer : List ℕ) where
       not-false _ (neither (ltb 65536 (length (spell x))) _ (nineteen .0) .1)
 
 -- what reading back says: the packet is accepted, and its sheet is this one
-back-means : (l x : List ℕ) → readsBack l x ≡ true → Acceptable 3 l (length x) × (sheet 3 l ≡ x)
+back-means : (l x : List ℕ) → readsBack l x ≡ true → Acceptable (asEdition 3) l (length x) × (sheet (asEdition 3) l ≡ x)
 unfolding readsBack
-back-means l x e = go (readingAnswer 3 l (length x)) refl e
+back-means l x e = go (readingAnswer (asEdition 3) l (length x)) refl e
   where
-    go : (a : Answer) → readingAnswer 3 l (length x) ≡ a → (isAccepted a && isSame (sheet 3 l) x) ≡ true → Acceptable 3 l (length x) × (sheet 3 l ≡ x)
-    go (Accepted s d t n) h e = (accepted-only 3 l (length x) s d t n h .0, same-lists (sheet 3 l) x e)
+    go : (a : Answer) → readingAnswer (asEdition 3) l (length x) ≡ a → (isAccepted a && isSame (sheet (asEdition 3) l) x) ≡ true → Acceptable (asEdition 3) l (length x) × (sheet (asEdition 3) l ≡ x)
+    go (Accepted s d t n) h e = (accepted-only (asEdition 3) l (length x) s d t n h .0, same-lists (sheet (asEdition 3) l) x e)
     go (Refused number segment field) h e = absurd (true≢false (sym e))
 
 -- ---- the four parts of the demand
 
 -- the counts are the sheet's
-counted : (edition : ℕ) (l lent : List ℕ) (s d t n : ℕ) → read edition l lent .answer ≡ Accepted s d t n → Counted (sheet edition l) s d t n
-counted edition l lent s d t n e = go _ _ _ _ (read-only edition l lent s d t n e .1) (counts-are edition l)
+counted : (settings : Settings) (l lent : List ℕ) (s d t n : ℕ) → read settings l lent .answer ≡ Accepted s d t n → Counted (sheet settings l) s d t n
+counted settings l lent s d t n e = go _ _ _ _ (read-only settings l lent s d t n e .1) (counts-are settings l)
   where
-    go : (s′ d′ t′ n′ : ℕ) → Accepted s′ d′ t′ n′ ≡ Accepted s d t n → Counted (sheet edition l) s′ d′ t′ n′ → Counted (sheet edition l) s d t n
+    go : (s′ d′ t′ n′ : ℕ) → Accepted s′ d′ t′ n′ ≡ Accepted s d t n → Counted (sheet settings l) s′ d′ t′ n′ → Counted (sheet settings l) s d t n
     go s′ d′ t′ n′ h c = record { segments-are = cc; dwells-are = cc; targets-are = cc; length-is = cc }
 
 -- the sheet of an accepted packet is written as that packet
-sheet-written : (l lent buffer : List ℕ) (s d t n : ℕ) → Bytes l → read 3 l lent .answer ≡ Accepted s d t n → length l ≤ length buffer
-    → write (take n (read 3 l lent .left)) buffer ≡ outcome (Accepted s d t (length l)) (over l buffer)
+sheet-written : (l lent buffer : List ℕ) (s d t n : ℕ) → Bytes l → read (asEdition 3) l lent .answer ≡ Accepted s d t n → length l ≤ length buffer
+    → write (take n (read (asEdition 3) l lent .left)) buffer ≡ outcome (Accepted s d t (length l)) (over l buffer)
 unfolding over
 sheet-written l lent buffer s d t n b e h =
-    let a = read-only 3 l lent s d t n e in
-    let cut : take n (read 3 l lent .left) ≡ sheet 3 l =
-    ap (λ (o : Outcome). take n (o .left)) (read-when 3 l lent (a .0))
-    ∙ take-at (sheet 3 l) (drop (length (sheet 3 l)) lent) n (same-length _ _ _ _ s d t n (a .1)) in
+    let a = read-only (asEdition 3) l lent s d t n e in
+    let cut : take n (read (asEdition 3) l lent .left) ≡ sheet (asEdition 3) l =
+    ap (λ (o : Outcome). take n (o .left)) (read-when (asEdition 3) l lent (a .0))
+    ∙ take-at (sheet (asEdition 3) l) (drop (length (sheet (asEdition 3) l)) lent) n (same-length _ _ _ _ s d t n (a .1)) in
     rw cut
-    (written-when (sheet 3 l) buffer (sheet-passes l (length lent) (a .0) (length buffer) b h)
+    (written-when (sheet (asEdition 3) l) buffer (sheet-passes l (length lent) (a .0) (length buffer) b h)
     ∙ ap (λ (p : List ℕ). outcome (countsOf p (length p)) (over p buffer)) (spell-sheet l (length lent) (a .0) b)
     ∙ ap (λ (c : Answer). outcome c (over l buffer)) (same-counts _ _ _ _ s d t n (length l) (a .1)))
 
 -- a sheet that is written is the one of the packet that it is written as
 only-written : (x buffer : List ℕ) (s d t n : ℕ) → Bytes x → write x buffer .answer ≡ Accepted s d t n
     → (l : List ℕ) × Bytes l × (length l ≡ n) × (write x buffer .left ≡ over l buffer)
-    × ((lent : List ℕ) → length lent ≡ length x → read 3 l lent ≡ outcome (Accepted s d t (length x)) x)
+    × ((lent : List ℕ) → length lent ≡ length x → read (asEdition 3) l lent ≡ outcome (Accepted s d t (length x)) x)
 unfolding over
 only-written x buffer s d t n b e =
     let p = written-only x buffer s d t n e in
@@ -162,7 +163,7 @@ only-written x buffer s d t n b e =
       same-length _ _ _ _ s d t n is,
       ap (λ (o : Outcome). o .left) w,
       λ lent h.
-          read-when 3 (spell x) lent (subst (Acceptable 3 (spell x)) (sym h) (r .0))
+          read-when (asEdition 3) (spell x) lent (subst (Acceptable (asEdition 3) (spell x)) (sym h) (r .0))
           ∙ ap (λ (y : List ℕ). outcome (countsOf (spell x) (length y)) (over y lent)) (r .1)
           ∙ ap₂ (λ (c : Answer) (y : List ℕ). outcome c y) (same-counts _ _ _ _ s d t n (length x) is)
           (ap (λ (y : List ℕ). x ++ y) (drop-of-length-le lent {i = length x} (omega arith)) ∙ append-nil x),
@@ -175,8 +176,8 @@ over-front l buffer = take-at l (drop (length l) buffer) (length l) refl
 
 -- packets with the same sheet are written into a buffer that has room for either, so they are the same packet
 one-packet : (l m lentl lentm : List ℕ) (s d t n s′ d′ t′ n′ : ℕ) → Bytes l → Bytes m
-    → read 3 l lentl .answer ≡ Accepted s d t n → read 3 m lentm .answer ≡ Accepted s′ d′ t′ n′
-    → take n (read 3 l lentl .left) ≡ take n′ (read 3 m lentm .left)
+    → read (asEdition 3) l lentl .answer ≡ Accepted s d t n → read (asEdition 3) m lentm .answer ≡ Accepted s′ d′ t′ n′
+    → take n (read (asEdition 3) l lentl .left) ≡ take n′ (read (asEdition 3) m lentm .left)
     → l ≡ m
 one-packet l m lentl lentm s d t n s′ d′ t′ n′ bl bm el em same =
     sym (over-front l buffer)

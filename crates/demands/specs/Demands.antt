@@ -9,6 +9,8 @@ use mathlib.Core.List.{List}
 use lib.ListN.{length, getD, take}
 use Rattle.octets.specs.Octets.{Bytes}
 use Rattle.octets.specs.Layout.{over}
+use Rattle.format.specs.Edition.{asEdition}
+use Rattle.format.specs.declared.Settings.{Settings}
 use Rattle.format.specs.declared.Check.the-variants.{Passed, Failed}
 use Rattle.format.specs.declared.Answer.the-variants.{Accepted, Refused}
 use Rattle.format.specs.Packet.{version}
@@ -32,11 +34,11 @@ refused number segment field left = outcome (Refused number segment field) left
 
 -- ---- Demand 1. A packet "is either set out on a sheet, when no row of document 01 applies, or turned down with the number, segment
 -- and field of the first row that does. A packet turned down leaves the lent sheet as it was."
-pub data Reads (edition : ℕ) (l lent : List ℕ) : Outcome → Type 0 where
-  set-out : {segments dwells targets : ℕ} → NoRow edition l (length lent) segments
-      → Reads edition l lent (accepted segments dwells targets (length (sheet edition l)) (over (sheet edition l) lent))
-  turned-down : {number segment field : ℕ} → FirstRow edition l (length lent) number segment field
-      → Reads edition l lent (refused number segment field lent)
+pub data Reads (settings : Settings) (l lent : List ℕ) : Outcome → Type 0 where
+  set-out : {segments dwells targets : ℕ} → NoRow settings l (length lent) segments
+      → Reads settings l lent (accepted segments dwells targets (length (sheet settings l)) (over (sheet settings l) lent))
+  turned-down : {number segment field : ℕ} → FirstRow settings l (length lent) number segment field
+      → Reads settings l lent (refused number segment field lent)
 
 -- "A sheet handed in for writing is treated likewise."
 pub data Writes (x lent : List ℕ) : Outcome → Type 0 where
@@ -47,7 +49,7 @@ pub data Writes (x lent : List ℕ) : Outcome → Type 0 where
 
 -- "a run of bytes of any length and content, read as Edition 1 or as Edition 3", or as any other number. "Neither asks for a checked input."
 pub record Demand1 : Type 0 where
-  pub reading : (edition : ℕ) (l lent : List ℕ) → Reads edition l lent (read edition l lent)
+  pub reading : (settings : Settings) (l lent : List ℕ) → Reads settings l lent (read settings l lent)
   pub writing : (x lent : List ℕ) → Writes x lent (write x lent)
 
 -- ---- Demand 2. "The sheet is the one that the STANAG 4607 tables, as condensed in document 01, give for those bytes": that is the
@@ -62,17 +64,17 @@ pub record Counted (x : List ℕ) (segments dwells targets n : ℕ) : Type 0 whe
 -- demand 2 itself: the counts, "exactly" in both directions, and that the writer can return "that packet": hence no two packets have the
 -- same Edition 3 sheet
 pub record Demand2 : Type 0 where
-  pub counts : (edition : ℕ) (l lent : List ℕ) (s d t n : ℕ) → read edition l lent .answer ≡ Accepted s d t n
-      → Counted (sheet edition l) s d t n
-  pub sheets-are-written : (l lent buffer : List ℕ) (s d t n : ℕ) → Bytes l → read 3 l lent .answer ≡ Accepted s d t n
+  pub counts : (settings : Settings) (l lent : List ℕ) (s d t n : ℕ) → read settings l lent .answer ≡ Accepted s d t n
+      → Counted (sheet settings l) s d t n
+  pub sheets-are-written : (l lent buffer : List ℕ) (s d t n : ℕ) → Bytes l → read (asEdition 3) l lent .answer ≡ Accepted s d t n
       → length l ≤ length buffer
-      → write (take n (read 3 l lent .left)) buffer ≡ accepted s d t (length l) (over l buffer)
+      → write (take n (read (asEdition 3) l lent .left)) buffer ≡ accepted s d t (length l) (over l buffer)
   pub only-sheets-are-written : (x buffer : List ℕ) (s d t n : ℕ) → Bytes x → write x buffer .answer ≡ Accepted s d t n
       → (l : List ℕ) × Bytes l × (length l ≡ n) × (write x buffer .left ≡ over l buffer)
-      × ((lent : List ℕ) → length lent ≡ length x → read 3 l lent ≡ accepted s d t (length x) x)
+      × ((lent : List ℕ) → length lent ≡ length x → read (asEdition 3) l lent ≡ accepted s d t (length x) x)
   pub one-packet-each : (l m lentl lentm : List ℕ) (s d t n s′ d′ t′ n′ : ℕ) → Bytes l → Bytes m
-      → read 3 l lentl .answer ≡ Accepted s d t n → read 3 m lentm .answer ≡ Accepted s′ d′ t′ n′
-      → take n (read 3 l lentl .left) ≡ take n′ (read 3 m lentm .left)
+      → read (asEdition 3) l lentl .answer ≡ Accepted s d t n → read (asEdition 3) m lentm .answer ≡ Accepted s′ d′ t′ n′
+      → take n (read (asEdition 3) l lentl .left) ≡ take n′ (read (asEdition 3) m lentm .left)
       → l ≡ m
 
 -- ---- Demand 3
@@ -83,28 +85,28 @@ pub record BothRead (l lent1 lent3 : List ℕ) (s d t n : ℕ) : Type 0 where
   pub are-bytes : Bytes l
   pub version-3 : version l ≡ 3
   pub same-length : length lent1 ≡ length lent3
-  pub edition-3 : read 3 l lent3 .answer ≡ Accepted s d t n
+  pub edition-3 : read (asEdition 3) l lent3 .answer ≡ Accepted s d t n
 
 -- "none of the four things": "It then answers the same counts and length. Its sheet equals the Edition 3 sheet in every byte but
 -- those of fields D27 and J26 and their marks, which are zero, since these two are withheld. Copy into it every D27 and J26 of the
 -- Edition 3 sheet and mark them as shown: given the sheet so filled in and a buffer at least as long as the packet, whatever it
 -- held, the writer accepts and returns the same packet with the same counts."
 pub record ReadAlike (l lent1 lent3 : List ℕ) (s d t n : ℕ) : Type 0 where
-  pub same-answer : read 1 l lent1 .answer ≡ Accepted s d t n
-  pub same-but : take n (read 1 l lent1 .left) ≡ withheldSheet (take n (read 3 l lent3 .left))
+  pub same-answer : read (asEdition 1) l lent1 .answer ≡ Accepted s d t n
+  pub same-but : take n (read (asEdition 1) l lent1 .left) ≡ withheldSheet (take n (read (asEdition 3) l lent3 .left))
   pub every-byte : (i : ℕ)
-      → getD (take n (read 1 l lent1 .left)) i 0
-      ≡ cond (isWithheldAt (listed (take n (read 3 l lent3 .left)) .records) i) 0 (getD (take n (read 3 l lent3 .left)) i 0)
+      → getD (take n (read (asEdition 1) l lent1 .left)) i 0
+      ≡ cond (isWithheldAt (listed (take n (read (asEdition 3) l lent3 .left)) .records) i) 0 (getD (take n (read (asEdition 3) l lent3 .left)) i 0)
   pub written-back : (buffer : List ℕ) → length l ≤ length buffer
-      → write (filledIn (take n (read 1 l lent1 .left)) (take n (read 3 l lent3 .left))) buffer ≡ accepted s d t (length l) (over l buffer)
+      → write (filledIn (take n (read (asEdition 1) l lent1 .left)) (take n (read (asEdition 3) l lent3 .left))) buffer ≡ accepted s d t (length l) (over l buffer)
 
 -- "accepts exactly when the packet holds none of the four things"; "If the packet does hold something new, the Edition 1 reading
 -- refuses with 15 and names the first segment that holds any, and the field that document 01 gives for it."
 abbrev pub OlderReading : (l lent1 lent3 : List ℕ) (s d t n : ℕ) → New → Type 0
 OlderReading l lent1 lent3 s d t n nothing = ReadAlike l lent1 lent3 s d t n
-OlderReading l lent1 lent3 s d t n (found segment field) = read 1 l lent1 ≡ refused 15 segment field lent1
+OlderReading l lent1 lent3 s d t n (found segment field) = read (asEdition 1) l lent1 ≡ refused 15 segment field lent1
 
 -- demand 3, for every packet, both lent sheets and every buffer
 abbrev pub Demand3 : Type 0
 Demand3 = (l lent1 lent3 : List ℕ) (s d t n : ℕ) → BothRead l lent1 lent3 s d t n
-    → OlderReading l lent1 lent3 s d t n (firstNew 1 (parsed 3 l .segments))
+    → OlderReading l lent1 lent3 s d t n (firstNew 1 (parsed (asEdition 3) l .segments))

@@ -6,6 +6,7 @@ use mathlib.Core.Bool.{Bool, true, false}
 use mathlib.Core.List.{List, [], _∷_, _++_, map}
 use lib.ListN.{drop}
 use Rattle.octets.specs.Octets.{bytes}
+use Rattle.format.specs.Edition.{asEdition}
 use Rattle.format.specs.declared.Answer.the-variants.{Accepted}
 use Rattle.format.specs.Samples.{zeros, version3, dwell, d2to9, d24to27, mission, job, freeText, segment}
 use Rattle.format.specs.New.{nothing, found, firstNew}
@@ -25,23 +26,23 @@ mixed = version3 (
 
 -- whether each of these places of its Edition 3 sheet is withheld
 abbrev pub withheldOf : List ℕ → List Bool
-withheldOf is = map (isWithheldAt (listed (sheet 3 mixed) .records)) is
+withheldOf is = map (isWithheldAt (listed (sheet (asEdition 3) mixed) .records)) is
 
 -- both readings of it, its withheld and filled sheets (filled in from its sheet without the header, each record meets one of another
 -- kind), its counts; the places around D27 (151 and 152) and around its mark (160), around J26 (272) and its mark (275); and something
 -- new in a second segment
 unfoldable pub trials : List (Type 0)
 trials =
-    (read 3 mixed (zeros 400) .answer ≡ Accepted 4 1 1 369)
-    ∷ (firstNew 1 (parsed 3 mixed .segments) ≡ nothing)
-    ∷ (read 1 mixed (zeros 400) .answer ≡ Accepted 4 1 1 369)
-    ∷ (sheet 1 mixed ≡ withheldSheet (sheet 3 mixed))
-    ∷ (filledIn (sheet 1 mixed) (sheet 3 mixed) ≡ sheet 3 mixed)
-    ∷ (filledIn (sheet 1 mixed) (drop 33 (sheet 3 mixed)) ≡ sheet 1 mixed)
-    ∷ (count isLeader (listed (sheet 3 mixed) .records) ≡ 4)
-    ∷ (count (isKind 3) (listed (sheet 3 mixed) .records) ≡ 1)
-    ∷ (count (isKind 4) (listed (sheet 3 mixed) .records) ≡ 1)
+    (read (asEdition 3) mixed (zeros 400) .answer ≡ Accepted 4 1 1 369)
+    ∷ (firstNew 1 (parsed (asEdition 3) mixed .segments) ≡ nothing)
+    ∷ (read (asEdition 1) mixed (zeros 400) .answer ≡ Accepted 4 1 1 369)
+    ∷ (sheet (asEdition 1) mixed ≡ withheldSheet (sheet (asEdition 3) mixed))
+    ∷ (filledIn (sheet (asEdition 1) mixed) (sheet (asEdition 3) mixed) ≡ sheet (asEdition 3) mixed)
+    ∷ (filledIn (sheet (asEdition 1) mixed) (drop 33 (sheet (asEdition 3) mixed)) ≡ sheet (asEdition 1) mixed)
+    ∷ (count isLeader (listed (sheet (asEdition 3) mixed) .records) ≡ 4)
+    ∷ (count (isKind 3) (listed (sheet (asEdition 3) mixed) .records) ≡ 1)
+    ∷ (count (isKind 4) (listed (sheet (asEdition 3) mixed) .records) ≡ 1)
     ∷ (withheldOf (150 ∷ 151 ∷ 152 ∷ 153 ∷ 159 ∷ 160 ∷ 161 ∷ []) ≡ false ∷ true ∷ true ∷ false ∷ false ∷ true ∷ false ∷ [])
     ∷ (withheldOf (271 ∷ 272 ∷ 273 ∷ 274 ∷ 275 ∷ 276 ∷ []) ≡ false ∷ true ∷ false ∷ false ∷ true ∷ false ∷ [])
-    ∷ (firstNew 1 (parsed 3 (version3 (mission 1 1 ++ job 96 ++ segment 3 [])) .segments) ≡ found 2 14)
+    ∷ (firstNew 1 (parsed (asEdition 3) (version3 (mission 1 1 ++ job 96 ++ segment 3 [])) .segments) ≡ found 2 14)
     ∷ []

@@ -3,18 +3,19 @@
 use mathlib.Core.Path.{_≡_, refl, sym, ap, _∙_}
 use mathlib.Core.Bool.{Bool, true, false, cond}
 use mathlib.Core.List.{List, [], _∷_, _++_}
-use Prim.Native.Nat.{ℕ, _+_, _≤_}
+use Prim.Native.Nat.{ℕ, _≤_}
 use native.Mathlib.Omega.{arith}
 use lib.ListN.{length, take, drop, length-append}
 use lib.Seq.{sets, sets-eq, length-sets, length-take-le}
 use Rattle.octets.specs.Layout.{pad, total, replaced, zeroed}
 use Rattle.octets.proofs.Laws.{then}
-use Rattle.mask.specs.Fields.{announcedLength, fullFields, dwellWidths}
+use Rattle.mask.specs.Fields.{fullFields, dwellWidths}
 use Rattle.format.specs.declared.Reading.{Reading}
-use Rattle.format.specs.declared.Area.{Area}
 use Rattle.format.specs.Dwell.{maskOf, dwellFields, targetCount, targetsOf, areaOf}
 use Rattle.format.specs.Edition.{isOlder, shown, mark}
-use Rattle.format.specs.Sheet.{bodyLength, dwellRecord, targetRecords, dwellRecords, recordBytes}
+use Rattle.format.specs.Sheet.{bodyLength, recordLength, dwellRecord, targetRecords, dwellRecords, recordBytes}
+use Rattle.dwell_checks.specs.declared.Plan.{Plan}
+use Rattle.dwell_checks.specs.Plan.{planOf}
 use Rattle.format.proofs.Bodies.{length-dwell}
 use Rattle.records.proofs.Stores.{sets-within}
 use Rattle.format.proofs.Lengths.{length-one}
@@ -61,10 +62,11 @@ dwell-laid r mask v b l {x} {y} {z} {u} hm hv h hx hy hz hu hw =
     record-laid 3 (take 8 b ++ s ++ mark r ∷ []) (take 8 b ++ s ++ mark r ∷ []) l (full-body 3 _ m) hx
     (then (take 8 b ++ s) (mark r ∷ []) x 1 86 (then (take 8 b) s x 1 8 hy t g) a (hw ∙ ap (λ (k : ℕ). sets u 87 (k ∷ [])) hv))
 
--- a dwell's record, and its targets behind it, from n bytes of fields on
-pub dwell-with-targets : (r : Reading) (b l : List ℕ) (mask n count : ℕ) (area : Area) {m w : List ℕ}
-    → mask ≡ maskOf b → n ≡ announcedLength mask 2 dwellWidths → area ≡ areaOf (dwellFields b) → count ≡ targetCount b
-    → m ≡ sets l 0 (recordBytes (dwellRecord r b ∷ [])) → w ≡ sets m 88 (recordBytes (targetRecords mask area count (drop (8 + n) b))) → w ≡ sets l 0 (recordBytes (dwellRecords r b))
+-- a dwell's record, and behind it the targets of its plan
+pub dwell-with-targets : (r : Reading) (b l : List ℕ) (p : Plan) {m w : List ℕ}
+    → p ≡ planOf b → m ≡ sets l 0 (recordBytes (dwellRecord r b ∷ [])) → w ≡ sets m (recordLength 3) (recordBytes (targetRecords (p .mask) (p .area) (p .count) (drop (p .start) b)))
+    → w ≡ sets l 0 (recordBytes (dwellRecords r b))
 unfolding dwellRecords dwellRecord bodyLength targetsOf
-dwell-with-targets r b l mask n count area hk hn ha hc hm hw =
-    records-then (dwellRecord r b ∷ []) (targetRecords (maskOf b) (areaOf (dwellFields b)) (targetCount b) (targetsOf b)) l 0 88 hm (length-one 3 _) (rw (hn, ha, hc, hk) at hw)
+dwell-with-targets r b l p {m} e hm hw =
+    records-then (dwellRecord r b ∷ []) (targetRecords (maskOf b) (areaOf (dwellFields b)) (targetCount b) (targetsOf b)) l 0 (recordLength 3) hm (length-one 3 _)
+    (hw ∙ ap (λ (q : Plan). sets m (recordLength 3) (recordBytes (targetRecords (q .mask) (q .area) (q .count) (drop (q .start) b)))) e)

@@ -1,3 +1,2 @@
-pub mod Dwells
 pub mod Targets
-pub mod Taken
+pub mod Dwells

@@ -15,13 +15,13 @@ use Rattle.octets.specs.Octets.{bytes, signedBytes}
 use Rattle.octets.specs.Layout.{total}
 use Rattle.octets.proofs.Laws.{then, length-bytes}
 use Rattle.octets.proofs.Parts.{tail-is}
-use Rattle.mask.specs.Fields.{announcedLength, fullFields, targetWidths}
+use Rattle.mask.specs.Fields.{fullFields, targetWidths}
 use Rattle.mask.proofs.FullWidth.{length-full}
 use Rattle.position.specs.Position.{isLatitude, latitudeMicro, longitudeMicro}
 use Rattle.format.specs.declared.Area.{Area}
 use Rattle.format.specs.declared.Check.the-variants.{Passed}
-use Rattle.format.specs.Dwell.{targetFields, latitude, longitude}
-use Rattle.format.specs.Sheet.{bodyLength, targetRecord, targetRecords, recordBytes}
+use Rattle.format.specs.Dwell.{targetFields, targetLength, latitude, longitude}
+use Rattle.format.specs.Sheet.{bodyLength, recordLength, targetRecord, targetRecords, recordBytes}
 use Rattle.format.specs.Rows.{Row, firstRow, targetRows, targetsRows}
 use Rattle.format.proofs.Rows.{first-passes, both-pass}
 use Rattle.format.proofs.Lengths.{length-one}
@@ -60,22 +60,22 @@ target-laid mask area t l x y {i} {j} {k} hx hy hi hj hk hw =
 
 module _ (mask : ℕ) (area : Area) where
   -- the next target of several
-  target-step : (n : ℕ) (t : List ℕ) → targetRecords mask area (suc n) t ≡ targetRecord mask area t ∷ targetRecords mask area n (drop (announcedLength mask 32 targetWidths) t)
+  target-step : (n : ℕ) (t : List ℕ) → targetRecords mask area (suc n) t ≡ targetRecord mask area t ∷ targetRecords mask area n (drop (targetLength mask) t)
   unfolding targetRecords
   target-step n t = refl
 
   -- the length of a target's record
-  length-of-target : (t : List ℕ) → length (recordBytes (targetRecord mask area t ∷ [])) ≡ 45
+  length-of-target : (t : List ℕ) → length (recordBytes (targetRecord mask area t ∷ [])) ≡ recordLength 4
   unfolding targetRecord bodyLength
   length-of-target t = length-one 4 _
 
   -- the loop: once the target at p is stored at q, what is left to store still gives all of them
   pub targets-next : (n k p q each : ℕ) (t o all : List ℕ) {m : List ℕ}
-      → n ≡ suc k → each ≡ announcedLength mask 32 targetWidths → m ≡ sets o q (recordBytes (targetRecord mask area (drop p t) ∷ [])) → sets o q (recordBytes (targetRecords mask area n (drop p t))) ≡ all
-      → sets m (q + 45) (recordBytes (targetRecords mask area k (drop (p + each) t))) ≡ all
+      → n ≡ suc k → each ≡ targetLength mask → m ≡ sets o q (recordBytes (targetRecord mask area (drop p t) ∷ [])) → sets o q (recordBytes (targetRecords mask area n (drop p t))) ≡ all
+      → sets m (q + recordLength 4) (recordBytes (targetRecords mask area k (drop (p + each) t))) ≡ all
   targets-next n k p q each t o all {m} hn he hm e =
-      ap (λ (u : ℕ). sets m (q + 45) (recordBytes (targetRecords mask area k (drop (p + u) t)))) he
-      ∙ records-next (targetRecord mask area) (targetRecords mask area) (announcedLength mask 32 targetWidths) 45 target-step length-of-target n k p q t o all hn hm e
+      ap (λ (u : ℕ). sets m (q + recordLength 4) (recordBytes (targetRecords mask area k (drop (p + u) t)))) he
+      ∙ records-next (targetRecord mask area) (targetRecords mask area) (targetLength mask) (recordLength 4) target-step length-of-target n k p q t o all hn hm e
 
   -- at the end none are left to store
   pub targets-last : (n p q : ℕ) (t o all : List ℕ) → n ≡ 0 → sets o q (recordBytes (targetRecords mask area n (drop p t))) ≡ all → o ≡ all
@@ -83,9 +83,9 @@ module _ (mask : ℕ) (area : Area) where
   targets-last n p q t o all hn e = rw hn at e
 
   -- where no row applies to several targets, none applies to the first, and none to those behind it
-  rows-split : (n : ℕ) (t : List ℕ) → firstRow (targetsRows mask area (suc n) t) ≡ Passed → (firstRow (targetRows mask area t) ≡ Passed) × (firstRow (targetsRows mask area n (drop (announcedLength mask 32 targetWidths) t)) ≡ Passed)
+  rows-split : (n : ℕ) (t : List ℕ) → firstRow (targetsRows mask area (suc n) t) ≡ Passed → (firstRow (targetRows mask area t) ≡ Passed) × (firstRow (targetsRows mask area n (drop (targetLength mask) t)) ≡ Passed)
   unfolding targetsRows
-  rows-split n t e = both-pass (targetRows mask area t) (targetsRows mask area n (drop (announcedLength mask 32 targetWidths) t)) e
+  rows-split n t e = both-pass (targetRows mask area t) (targetsRows mask area n (drop (targetLength mask) t)) e
 
   -- a target to which no row applies has a latitude
   is-placed : (t : List ℕ) → firstRow (targetRows mask area t) ≡ Passed → isLatitude (latitude mask area (targetFields mask t)) ≡ true
@@ -102,20 +102,20 @@ module _ (mask : ℕ) (area : Area) where
   turn-placed n k p t hn e = ap (λ (x : List ℕ). isLatitude (latitude mask area (targetFields mask x))) (tail-is p t) ∙ is-placed (drop p t) (rows-split k (drop p t) (rw hn at e) .0)
 
   -- and behind it
-  pub rows-next : (n k p each : ℕ) (t : List ℕ) → n ≡ suc k → each ≡ announcedLength mask 32 targetWidths → firstRow (targetsRows mask area n (drop p t)) ≡ Passed → firstRow (targetsRows mask area k (drop (p + each) t)) ≡ Passed
-  rows-next n k p each t hn he e = rw (he, ← drop-drop (announcedLength mask 32 targetWidths) p t) (rows-split k (drop p t) (rw hn at e) .1)
+  pub rows-next : (n k p each : ℕ) (t : List ℕ) → n ≡ suc k → each ≡ targetLength mask → firstRow (targetsRows mask area n (drop p t)) ≡ Passed → firstRow (targetsRows mask area k (drop (p + each) t)) ≡ Passed
+  rows-next n k p each t hn he e = rw (he, ← drop-drop (targetLength mask) p t) (rows-split k (drop p t) (rw hn at e) .1)
 
   -- ---- the first j of several targets, and those behind them
 
-  pub targets-append : (j k : ℕ) (t : List ℕ) → targetRecords mask area (j + k) t ≡ targetRecords mask area j t ++ targetRecords mask area k (drop (j * announcedLength mask 32 targetWidths) t)
+  pub targets-append : (j k : ℕ) (t : List ℕ) → targetRecords mask area (j + k) t ≡ targetRecords mask area j t ++ targetRecords mask area k (drop (j * targetLength mask) t)
   unfolding targetRecords
-  targets-append = records-append (targetRecord mask area) (targetRecords mask area) (announcedLength mask 32 targetWidths) 45 target-step length-of-target (λ t. refl)
+  targets-append = records-append (targetRecord mask area) (targetRecords mask area) (targetLength mask) (recordLength 4) target-step length-of-target (λ t. refl)
 
-  rows-are : (j k : ℕ) (t : List ℕ) → targetsRows mask area (j + k) t ≡ targetsRows mask area j t ++ targetsRows mask area k (drop (j * announcedLength mask 32 targetWidths) t)
+  rows-are : (j k : ℕ) (t : List ℕ) → targetsRows mask area (j + k) t ≡ targetsRows mask area j t ++ targetsRows mask area k (drop (j * targetLength mask) t)
   unfolding targetsRows
   rows-are zero k t = rw (zero-add, zero-mul)
   rows-are (suc j) k t =
-      let u = announcedLength mask 32 targetWidths in
+      let u = targetLength mask in
       let p : u + j * u ≡ suc j * u = omega (arith, suc-mul j u) in
       ap (λ (n : ℕ). targetsRows mask area n t) (suc-add j k)
       ∙ ap (λ (x : List Row). targetRows mask area t ++ x) (rows-are j k (drop u t) ∙ ap (λ (x : List ℕ). targetsRows mask area j (drop u t) ++ targetsRows mask area k x) (drop-drop (j * u) u t ∙ ap (λ (n : ℕ). drop n t) p))
@@ -123,5 +123,5 @@ module _ (mask : ℕ) (area : Area) where
 
   -- where no row applies to all, none applies to the ones or to the others
   pub rows-append : (j k : ℕ) (t : List ℕ) → firstRow (targetsRows mask area (j + k) t) ≡ Passed
-      → (firstRow (targetsRows mask area j t) ≡ Passed) × (firstRow (targetsRows mask area k (drop (j * announcedLength mask 32 targetWidths) t)) ≡ Passed)
-  rows-append j k t e = both-pass (targetsRows mask area j t) (targetsRows mask area k (drop (j * announcedLength mask 32 targetWidths) t)) (sym (ap firstRow (rows-are j k t)) ∙ e)
+      → (firstRow (targetsRows mask area j t) ≡ Passed) × (firstRow (targetsRows mask area k (drop (j * targetLength mask) t)) ≡ Passed)
+  rows-append j k t e = both-pass (targetsRows mask area j t) (targetsRows mask area k (drop (j * targetLength mask) t)) (sym (ap firstRow (rows-are j k t)) ∙ e)

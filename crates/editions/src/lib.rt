@@ -1,14 +1,14 @@
 // What goes by the edition that a packet is read as.
 ghost use mathlib.Core.Path.{_≡_};
 ghost use mathlib.Core.Bool.{cond};
-ghost use Rattle.mask.specs.Mask.{between, newInMask};
+ghost use Rattle.mask.specs.Mask.{newInMask};
 ghost use Rattle.format.specs.Edition.{isOlder, mark, isNewMode};
 
 // Whether this is the Edition 1 reading of a version 3 packet.
 pub fn is_older(r: format::Reading) -> bool
     ensures { λ b. ⌜ b ≡ isOlder r ⌝ }
 {
-    r.edition == 1 && r.version == 3
+    r.settings.edition == 1 && r.version == 3
 }
 
 // The mark of a field that the older reading withholds.
@@ -18,30 +18,23 @@ pub fn mark_of(r: format::Reading) -> u8
     if is_older(r) { 0 } else { 1 }
 }
 
-// Whether x is one of first to last.
-pub fn is_within(first: u8, last: u8, x: u8) -> bool
-    ensures { λ r. ⌜ r ≡ between first last x ⌝ }
-{
-    first <= x && x <= last
-}
-
 // Whether the value of J14 is one that is new in Edition 3.
 pub fn is_new_mode(mode: u8) -> bool
     ensures { λ r. ⌜ r ≡ isNewMode mode ⌝ }
 {
-    if is_within(91, 93, mode) {
+    if octets::is_between(91, 93, mode) {
         return true;
     }
-    if is_within(96, 97, mode) {
+    if octets::is_between(96, 97, mode) {
         return true;
     }
-    if is_within(101, 104, mode) {
+    if octets::is_between(101, 104, mode) {
         return true;
     }
-    if is_within(111, 113, mode) {
+    if octets::is_between(111, 113, mode) {
         return true;
     }
-    is_within(120, 123, mode)
+    octets::is_between(120, 123, mode)
 }
 
 // The field of what is new in a dwell's mask, where the reading is the older one, and else 0.

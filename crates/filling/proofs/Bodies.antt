@@ -5,13 +5,13 @@ use native.Mathlib.Omega.{arith}
 use mathlib.Core.Path.{_≡_, refl, sym, ap, _∙_}
 use mathlib.Core.List.{List, [], _∷_}
 use borrow.Author.Tests.{eq-eqb, ne-eqb}
-use lib.ListN.{length, take, drop}
+use lib.ListN.{length}
 use lib.Seq.{sets}
-use Rattle.octets.specs.Layout.{total, width, offset, field, replaced, copied}
+use Rattle.octets.specs.Layout.{width, offset, field, replaced, copied}
 use Rattle.octets.proofs.Laws.{stores-are}
 use Rattle.octets.proofs.Layouts.{length-field, length-copied}
 use Rattle.format.specs.Sheet.{Record, bodyLength}
-use Rattle.demands.specs.Filled.{dwellBodyWidths, jobBodyWidths, filledRecord}
+use Rattle.demands.specs.Filled.{filledRecord}
 
 -- stores from the place of a field on put the bytes into the field
 stored-field : (ws : List ℕ) (n : ℕ) (v b : List ℕ) → length v ≡ width 1 ws n → offset 1 ws n + width 1 ws n ≤ length b
@@ -19,42 +19,24 @@ stored-field : (ws : List ℕ) (n : ℕ) (v b : List ℕ) → length v ≡ width
 unfolding replaced
 stored-field ws n v b e h = stores-are v b (offset 1 ws n) (omega arith) ∙ rw e
 
--- the field of q stored, and then its mark
-stored-both : (ws : List ℕ) (n mark : ℕ) (b q : List ℕ) {p : List ℕ}
-    → offset 1 ws n + width 1 ws n ≤ length b → offset 1 ws n + width 1 ws n ≤ length q → offset 1 ws mark + width 1 ws mark ≤ length b → width 1 ws mark ≡ 1
-    → p ≡ sets b (offset 1 ws n) (field 1 ws n q)
-    → sets p (offset 1 ws mark) (1 ∷ []) ≡ replaced 1 ws mark (1 ∷ []) (copied 1 ws n q b)
-stored-both ws n mark b q hb hq hm one e =
-    ap (λ (l : List ℕ). sets l (offset 1 ws mark) (1 ∷ [])) (e ∙ stored-field ws n (field 1 ws n q) b (length-field 1 ws n q hq) hb)
-    ∙ stored-field ws mark (1 ∷ []) (copied 1 ws n q b) (sym one) (rw (length-copied 1 ws n q b hq hb) hm)
-
 -- a record of the kind
 abbrev ofKind : ℕ → List ℕ → Record
 ofKind kind b = record { kind = kind; body = b }
 
-module _ (kind : ℕ) (b q : List ℕ) (hb : length b ≡ bodyLength kind) (hq : length q ≡ bodyLength kind) where
-  -- the field and its mark, in a record of the kind that has them
-  filled-as : (k : ℕ) (ws : List ℕ) (n mark : ℕ) {p : List ℕ} → kind ≡ k
-      → offset 1 ws n + width 1 ws n ≤ bodyLength k → offset 1 ws mark + width 1 ws mark ≤ bodyLength k → width 1 ws mark ≡ 1
-      → replaced 1 ws mark (1 ∷ []) (copied 1 ws n q b) ≡ filledRecord (ofKind k b) (ofKind k q) .body
-      → p ≡ sets b (offset 1 ws n) (field 1 ws n q)
-      → sets p (offset 1 ws mark) (1 ∷ []) ≡ filledRecord (ofKind kind b) (ofKind kind q) .body
-  filled-as k ws n mark e within last one is stored =
-      let lb : length b ≡ bodyLength k = hb ∙ ap bodyLength e in
-      let lq : length q ≡ bodyLength k = hq ∙ ap bodyLength e in
-      stored-both ws n mark b q (omega arith) (omega arith) (omega arith) one stored
-      ∙ is
-      ∙ sym (ap (λ (m : ℕ). filledRecord (ofKind m b) (ofKind m q) .body) e)
-
-  -- D27 and its mark, in a dwell's record
-  pub filled-dwell : {p : List ℕ} → kind ≡ 3 → p ≡ sets b 77 (take 2 (drop 77 q)) → sets p 86 (1 ∷ []) ≡ filledRecord (ofKind kind b) (ofKind kind q) .body
-  unfolding filledRecord bodyLength total field
-  filled-dwell e stored = filled-as 3 dwellBodyWidths 27 32 e (omega arith) (omega arith) refl refl stored
-
-  -- J26 and its mark, in a job's record
-  pub filled-job : {p : List ℕ} → kind ≡ 8 → p ≡ sets b 65 (take 1 (drop 65 q)) → sets p 68 (1 ∷ []) ≡ filledRecord (ofKind kind b) (ofKind kind q) .body
-  unfolding filledRecord bodyLength total field
-  filled-job e stored = filled-as 8 jobBodyWidths 26 29 e (omega arith) (omega arith) refl refl stored
+-- the field of q stored, and then its mark, in a record of the kind that has them
+pub filled-as : (k : ℕ) (ws : List ℕ) (n mark : ℕ) (b q : List ℕ) {kind : ℕ} {p : List ℕ} → length b ≡ bodyLength kind → length q ≡ bodyLength kind → kind ≡ k
+    → offset 1 ws n + width 1 ws n ≤ bodyLength k → offset 1 ws mark + width 1 ws mark ≤ bodyLength k → width 1 ws mark ≡ 1
+    → replaced 1 ws mark (1 ∷ []) (copied 1 ws n q b) ≡ filledRecord (ofKind k b) (ofKind k q) .body
+    → p ≡ sets b (offset 1 ws n) (field 1 ws n q)
+    → sets p (offset 1 ws mark) (1 ∷ []) ≡ filledRecord (ofKind kind b) (ofKind kind q) .body
+filled-as k ws n mark b q hb hq e within last one is stored =
+    let lb : length b ≡ bodyLength k = hb ∙ ap bodyLength e in
+    let lq : length q ≡ bodyLength k = hq ∙ ap bodyLength e in
+    let both = length-copied 1 ws n q b (omega arith) (omega arith) in
+    ap (λ (l : List ℕ). sets l (offset 1 ws mark) (1 ∷ [])) (stored ∙ stored-field ws n (field 1 ws n q) b (length-field 1 ws n q (omega arith)) (omega arith))
+    ∙ stored-field ws mark (1 ∷ []) (copied 1 ws n q b) (sym one) (omega (arith, both))
+    ∙ is
+    ∙ sym (ap (λ (m : ℕ). filledRecord (ofKind m b) (ofKind m q) .body) e)
 
 -- a record of any other kind is left as it was
 pub filled-none : (kind : ℕ) (b q : List ℕ) → (kind ≡ 3 → ⊥) → (kind ≡ 8 → ⊥) → b ≡ filledRecord (ofKind kind b) (ofKind kind q) .body

@@ -10,7 +10,8 @@ use borrow.Author.Tests.{leb-true, ltb-false, le-leb, eqb-true, not-false}
 use lib.Dec.{ltb, leb, eqb}
 use lib.ListN.{length, getD}
 use Rattle.octets.specs.Layout.{over}
-use Rattle.mask.specs.Mask.{between}
+use Rattle.octets.specs.Octets.{between}
+use Rattle.format.specs.declared.Settings.{Settings}
 use Rattle.format.specs.declared.Check.{Check}
 use Rattle.format.specs.declared.Check.the-variants.{Passed, Failed}
 use Rattle.format.specs.declared.Answer.{Answer}
@@ -34,40 +35,40 @@ pub same-length : (s d t n s′ d′ t′ n′ : ℕ) → Accepted s d t n ≡ A
 same-length s d t n s′ d′ t′ n′ e = cc
 
 -- the packet l is accepted where so many bytes are lent
-pub record Acceptable (edition : ℕ) (l : List ℕ) (lent : ℕ) : Type 0 where
-  pub header : firstRow (headerRows edition l) ≡ Passed
-  pub ending : parsed edition l .ending ≡ Passed
-  pub fits : length (sheet edition l) ≤ lent
+pub record Acceptable (settings : Settings) (l : List ℕ) (lent : ℕ) : Type 0 where
+  pub header : firstRow (headerRows settings l) ≡ Passed
+  pub ending : parsed settings l .ending ≡ Passed
+  pub fits : length (sheet settings l) ≤ lent
 
 -- the answer that it then gets
-abbrev pub answerOf : ℕ → List ℕ → Answer
-answerOf edition l =
-    Accepted (length (parsed edition l .segments)) (dwellsIn (parsed edition l .segments)) (targetsIn (parsed edition l .segments)) (length (sheet edition l))
+abbrev pub answerOf : Settings → List ℕ → Answer
+answerOf settings l =
+    Accepted (length (parsed settings l .segments)) (dwellsIn (parsed settings l .segments)) (targetsIn (parsed settings l .segments)) (length (sheet settings l))
 
-module _ (edition : ℕ) (l : List ℕ) (lent : ℕ) where
+module _ (settings : Settings) (l : List ℕ) (lent : ℕ) where
   -- the answer by how the walk over the segments ends, and by the first row of the header
   abbrev segmentsRead : Check → Answer
-  segmentsRead c = segmentsAnswer (record { segments = parsed edition l .segments; ending = c }) (length (sheet edition l)) lent
+  segmentsRead c = segmentsAnswer (record { segments = parsed settings l .segments; ending = c }) (length (sheet settings l)) lent
 
   abbrev headerRead : Check → Answer
-  headerRead c = elim c [ Passed ↦ segmentsRead (parsed edition l .ending) | Failed number field ↦ Refused number 0 field ]
+  headerRead c = elim c [ Passed ↦ segmentsRead (parsed settings l .ending) | Failed number field ↦ Refused number 0 field ]
 
   -- an acceptable packet is accepted
-  pub accepted-when : Acceptable edition l lent → readingAnswer edition l lent ≡ answerOf edition l
+  pub accepted-when : Acceptable settings l lent → readingAnswer settings l lent ≡ answerOf settings l
   unfolding readingAnswer
   accepted-when a = ap headerRead (a .header) ∙ ap segmentsRead (a .ending) ∙ rw (le-leb _ _ (a .fits))
 
   -- and no other one
-  pub accepted-only : (s d t n : ℕ) → readingAnswer edition l lent ≡ Accepted s d t n → Acceptable edition l lent × (answerOf edition l ≡ Accepted s d t n)
+  pub accepted-only : (s d t n : ℕ) → readingAnswer settings l lent ≡ Accepted s d t n → Acceptable settings l lent × (answerOf settings l ≡ Accepted s d t n)
   unfolding readingAnswer
-  accepted-only s d t n e = go (firstRow (headerRows edition l)) (parsed edition l .ending) (leb (length (sheet edition l)) lent) refl refl refl e
+  accepted-only s d t n e = go (firstRow (headerRows settings l)) (parsed settings l .ending) (leb (length (sheet settings l)) lent) refl refl refl e
     where
-      go : (c c′ : Check) (b : Bool) → firstRow (headerRows edition l) ≡ c → parsed edition l .ending ≡ c′ → leb (length (sheet edition l)) lent ≡ b
+      go : (c c′ : Check) (b : Bool) → firstRow (headerRows settings l) ≡ c → parsed settings l .ending ≡ c′ → leb (length (sheet settings l)) lent ≡ b
           → elim c [
-            | Passed ↦ elim c′ [ Passed ↦ cond b (answerOf edition l) (Refused 16 0 0) | Failed number field ↦ Refused number (length (parsed edition l .segments) + 1) field ]
+            | Passed ↦ elim c′ [ Passed ↦ cond b (answerOf settings l) (Refused 16 0 0) | Failed number field ↦ Refused number (length (parsed settings l .segments) + 1) field ]
             | Failed number field ↦ Refused number 0 field
           ] ≡ Accepted s d t n
-          → Acceptable edition l lent × (answerOf edition l ≡ Accepted s d t n)
+          → Acceptable settings l lent × (answerOf settings l ≡ Accepted s d t n)
       go (Failed number field) c′ b h p f e = no-refusal _ _ _ s d t n e
       go Passed (Failed number field) b h p f e = no-refusal _ _ _ s d t n e
       go Passed Passed false h p f e = no-refusal _ _ _ s d t n e
@@ -79,9 +80,9 @@ pub record Sized (l : List ℕ) : Type 0 where
   pub short : length l ≤ 65536
 
 -- by row 2
-pub header-sized : (edition : ℕ) (l : List ℕ) → firstRow (headerRows edition l) ≡ Passed → Sized l
+pub header-sized : (settings : Settings) (l : List ℕ) → firstRow (headerRows settings l) ≡ Passed → Sized l
 unfolding headerRows
-header-sized edition l e =
+header-sized settings l e =
     let one = first-passes _ _ e in
     let two = first-passes _ _ (one .1) in
     let sizes = neither (ltb (length l) 32) (ltb 65536 (length l)) (two .0) in
@@ -97,9 +98,9 @@ digit a b e = go (eqb a 0x31) (eqb a 0x33) refl refl e
     go false false hx hy e = absurd (true≢false (sym e))
 
 -- so in a header to which no row applies
-pub header-digit : (edition : ℕ) (l : List ℕ) → firstRow (headerRows edition l) ≡ Passed → 48 ≤ getD l 0 0
+pub header-digit : (settings : Settings) (l : List ℕ) → firstRow (headerRows settings l) ≡ Passed → 48 ≤ getD l 0 0
 unfolding headerRows isP1
-header-digit edition l e =
+header-digit settings l e =
     let one = first-passes _ _ e in
     let two = first-passes _ _ (one .1) in
     let three = first-passes _ _ (two .1) in
@@ -108,13 +109,13 @@ header-digit edition l e =
 -- ---- what an accepted reading leaves
 
 -- the sheet is laid over what was lent
-pub read-when : (edition : ℕ) (l lent : List ℕ) → Acceptable edition l (length lent) → read edition l lent ≡ outcome (answerOf edition l) (over (sheet edition l) lent)
+pub read-when : (settings : Settings) (l lent : List ℕ) → Acceptable settings l (length lent) → read settings l lent ≡ outcome (answerOf settings l) (over (sheet settings l) lent)
 unfolding read leftBy
-read-when edition l lent a =
-    ap (λ (c : Answer). outcome c (leftBy c (sheet edition l) lent)) (accepted-when edition l (length lent) a)
+read-when settings l lent a =
+    ap (λ (c : Answer). outcome c (leftBy c (sheet settings l) lent)) (accepted-when settings l (length lent) a)
 
 -- an accepted packet is acceptable
-pub read-only : (edition : ℕ) (l lent : List ℕ) (s d t n : ℕ) → read edition l lent .answer ≡ Accepted s d t n
-    → Acceptable edition l (length lent) × (answerOf edition l ≡ Accepted s d t n)
+pub read-only : (settings : Settings) (l lent : List ℕ) (s d t n : ℕ) → read settings l lent .answer ≡ Accepted s d t n
+    → Acceptable settings l (length lent) × (answerOf settings l ≡ Accepted s d t n)
 unfolding read
-read-only edition l lent s d t n e = accepted-only edition l (length lent) s d t n e
+read-only settings l lent s d t n e = accepted-only settings l (length lent) s d t n e

@@ -70,21 +70,21 @@ length-dwell b = length-full (maskOf b) 2 dwellWidths (drop 8 b)
 pub dwell-exact : (r : Reading) (b : List ℕ) → isOlder r ≡ false → 8 ≤ length b → dwellRecord r b ≡ record { kind = 3; body = take 8 b ++ (dwellFields b ++ 1 ∷ []) }
 unfolding dwellRecord shown mark bodyLength
 dwell-exact r b o h =
-    let n : length (take 8 b ++ (dwellFields b ++ 1 ∷ [])) ≡ 87 = simp (length-append, length-take-le 8 b h, length-dwell b) in
+    let n : length (take 8 b ++ (dwellFields b ++ 1 ∷ [])) ≡ bodyLength 3 = simp (length-append, length-take-le 8 b h, length-dwell b) in
     rw (o, append-assoc (take 8 b) (dwellFields b) (1 ∷ [])) (record-exact 3 _ n)
 
 -- a job definition's record where nothing is withheld
 pub job-exact : (r : Reading) (b : List ℕ) → isOlder r ≡ false → length b ≡ 68 → recordOf 8 (shown r 1 jobWidths 26 b ++ mark r ∷ []) ≡ record { kind = 8; body = b ++ 1 ∷ [] }
 unfolding shown mark bodyLength
 job-exact r b o h =
-    let n : length (b ++ 1 ∷ []) ≡ 69 = simp (length-append, h) in
+    let n : length (b ++ 1 ∷ []) ≡ bodyLength 8 = simp (length-append, h) in
     rw o (record-exact 8 _ n)
 
 -- the first record of a text
 pub text-exact : (b : List ℕ) (n : ℕ) → 20 ≤ length b → recordOf 5 (take 20 b ++ bytes 4 n) ≡ record { kind = 5; body = take 20 b ++ bytes 4 n }
 unfolding bodyLength
 text-exact b n h =
-    let e : length (take 20 b ++ bytes 4 n) ≡ 24 = simp (length-append, length-take-le 20 b h, length-bytes 4 n) in
+    let e : length (take 20 b ++ bytes 4 n) ≡ bodyLength 5 = simp (length-append, length-take-le 20 b h, length-bytes 4 n) in
     record-exact 5 _ e
 
 -- the first record of an opaque segment

@@ -1,6 +1,6 @@
 -- A segment's rows and records, by its type.
 -- Assumes nothing.
-use Prim.Native.Nat.{ℕ, _+_, _*_, _≤_}
+use Prim.Native.Nat.{ℕ, _≤_}
 use native.Mathlib.Omega.{arith}
 use mathlib.Core.Path.{_≡_, sym, ap, _∙_}
 use mathlib.Core.List.{List}
@@ -9,7 +9,7 @@ use lib.ListN.{length}
 use lib.Seq.{sets}
 use Rattle.format.specs.declared.Reading.{Reading}
 use Rattle.format.specs.declared.Check.the-variants.{Passed}
-use Rattle.format.specs.Sheet.{pieceCount, opaqueRecords, segmentRecords, recordBytes}
+use Rattle.format.specs.Sheet.{opaqueRecords, segmentRecords, recordBytes}
 use Rattle.format.specs.Rows.{firstRow, bodyRows}
 use Rattle.format.proofs.Lengths.{recordsOf, length-segment}
 
@@ -36,13 +36,3 @@ module _ (r : Reading) (b : List ℕ) (kind : ℕ) where
     pub opaque-are : bytesAs kind ≡ recordBytes (opaqueRecords kind b)
     unfolding segmentRecords
     opaque-are = rw (ne-eqb kind 1 h1, ne-eqb kind 2 h2, ne-eqb kind 5 h5, ne-eqb kind 6 h6, ne-eqb kind 10 h10, ne-eqb kind 13 h13)
-
-    -- the room that its records take
-    pub room-opaque : (n : ℕ) → length (bytesAs kind) ≤ n → 6 + pieceCount (length b) * 34 ≤ n
-    room-opaque n h =
-        let e : recordsOf kind b ≡ 6 + pieceCount (length b) * 34 = rw (ne-eqb kind 1 h1, ne-eqb kind 2 h2, ne-eqb kind 5 h5, ne-eqb kind 6 h6, ne-eqb kind 10 h10, ne-eqb kind 13 h13) in
-        omega (arith, h, length-segment r kind b, e)
-
-    -- and its records, stored
-    pub laid-opaque : (o : List ℕ) {p : List ℕ} → p ≡ sets o 0 (recordBytes (opaqueRecords kind b)) → p ≡ sets o 0 (bytesAs kind)
-    laid-opaque o h = h ∙ sym (ap (sets o 0) opaque-are)

@@ -8,10 +8,11 @@ use mathlib.Core.List.{List, [], _∷_, _++_, append-assoc}
 use lib.Dec.{eqb}
 use lib.ListN.{length, drop, length-append, length-drop}
 use Rattle.octets.proofs.Layouts.{length-pad}
+use Rattle.format.specs.declared.Settings.{Settings}
 use Rattle.format.specs.declared.Reading.{Reading}
 use Rattle.format.specs.declared.Area.{Area}
 use Rattle.format.specs.Dwell.{maskOf, dwellFields, targetCount, targetsOf, targetLength, areaOf}
-use Rattle.format.specs.Sheet.{Record, bodyLength, recordOf, headerRecord, dwellRecord, targetRecord, targetRecords, pieceRecord, pieceRecords, pieceCount, dwellRecords, textRecords, opaqueRecords, jobRecords, segmentRecords, packetRecords, recordBytes}
+use Rattle.format.specs.Sheet.{Record, bodyLength, recordLength, recordOf, headerRecord, dwellRecord, targetRecord, targetRecords, pieceRecord, pieceRecords, pieceCount, dwellRecords, textRecords, opaqueRecords, jobRecords, segmentRecords, packetRecords, recordBytes}
 use Rattle.format.specs.Reader.{parsed, readingOf, sheet}
 use Rattle.format.proofs.Types.{by-number}
 
@@ -27,7 +28,7 @@ unfolding recordBytes recordOf
 length-record kind b rs = ap suc (length-append (recordOf kind b .body) (recordBytes rs) ∙ ap (λ (n : ℕ). n + length (recordBytes rs)) (length-pad (bodyLength kind) b))
 
 -- so many targets
-pub length-targets : (mask : ℕ) (area : Area) (n : ℕ) (t : List ℕ) → length (recordBytes (targetRecords mask area n t)) ≡ n * 45
+pub length-targets : (mask : ℕ) (area : Area) (n : ℕ) (t : List ℕ) → length (recordBytes (targetRecords mask area n t)) ≡ n * recordLength 4
 unfolding targetRecords targetRecord recordBytes bodyLength
 length-targets mask area zero t = refl
 length-targets mask area (suc n) t =
@@ -35,7 +36,7 @@ length-targets mask area (suc n) t =
     length-record 4 _ (targetRecords mask area n u) ∙ omega (arith, length-targets mask area n u)
 
 -- so many pieces
-pub length-pieces : (n : ℕ) (b : List ℕ) → length (recordBytes (pieceRecords n b)) ≡ n * 34
+pub length-pieces : (n : ℕ) (b : List ℕ) → length (recordBytes (pieceRecords n b)) ≡ n * recordLength 6
 unfolding pieceRecords pieceRecord recordBytes bodyLength
 length-pieces zero b = refl
 length-pieces (suc n) b = length-record 6 _ (pieceRecords n (drop 32 b)) ∙ omega (arith, length-pieces n (drop 32 b))
@@ -46,49 +47,49 @@ unfolding recordBytes
 length-one kind b = omega (arith, length-record kind b [])
 
 -- the header's record by itself
-pub length-header : (l : List ℕ) → length (recordBytes (headerRecord l ∷ [])) ≡ 33
+pub length-header : (l : List ℕ) → length (recordBytes (headerRecord l ∷ [])) ≡ recordLength 1
 unfolding headerRecord bodyLength
 length-header l = length-one 1 l
 
 -- a sheet: the header's record, and those of the segments
-pub length-sheet : (edition : ℕ) (l : List ℕ) → length (sheet edition l) ≡ 33 + length (recordBytes (packetRecords (readingOf edition l) (parsed edition l .segments)))
+pub length-sheet : (settings : Settings) (l : List ℕ) → length (sheet settings l) ≡ recordLength 1 + length (recordBytes (packetRecords (readingOf settings l) (parsed settings l .segments)))
 unfolding sheet headerRecord bodyLength
-length-sheet edition l = length-record 1 l (packetRecords (readingOf edition l) (parsed edition l .segments)) ∙ omega arith
+length-sheet settings l = length-record 1 l (packetRecords (readingOf settings l) (parsed settings l .segments)) ∙ omega arith
 
 -- a dwell and its targets
-dwell : (r : Reading) (b : List ℕ) → length (recordBytes (dwellRecords r b)) ≡ 88 + targetCount b * 45
+dwell : (r : Reading) (b : List ℕ) → length (recordBytes (dwellRecords r b)) ≡ recordLength 3 + targetCount b * recordLength 4
 unfolding dwellRecords dwellRecord bodyLength
 dwell r b =
     length-record 3 _ (targetRecords (maskOf b) (areaOf (dwellFields b)) (targetCount b) (targetsOf b))
     ∙ omega (arith, length-targets (maskOf b) (areaOf (dwellFields b)) (targetCount b) (targetsOf b))
 
 -- a text and its pieces
-pub length-text : (b : List ℕ) → length (recordBytes (textRecords b)) ≡ 25 + pieceCount (length b - 20) * 34
+pub length-text : (b : List ℕ) → length (recordBytes (textRecords b)) ≡ recordLength 5 + pieceCount (length b - 20) * recordLength 6
 unfolding textRecords bodyLength
 length-text b =
     length-record 5 _ (pieceRecords (pieceCount (length (drop 20 b))) (drop 20 b))
     ∙ omega (arith, length-pieces (pieceCount (length (drop 20 b))) (drop 20 b), ap (λ (n : ℕ). pieceCount n) (length-drop 20 b))
 
 -- an opaque body and its pieces
-pub length-opaque : (type : ℕ) (b : List ℕ) → length (recordBytes (opaqueRecords type b)) ≡ 6 + pieceCount (length b) * 34
+pub length-opaque : (type : ℕ) (b : List ℕ) → length (recordBytes (opaqueRecords type b)) ≡ recordLength 7 + pieceCount (length b) * recordLength 6
 unfolding opaqueRecords bodyLength
 length-opaque type b = length-record 7 _ (pieceRecords (pieceCount (length b)) b) ∙ omega (arith, length-pieces (pieceCount (length b)) b)
 
 -- a job definition
-job : (r : Reading) (b : List ℕ) → length (recordBytes (jobRecords r b)) ≡ 70
+job : (r : Reading) (b : List ℕ) → length (recordBytes (jobRecords r b)) ≡ recordLength 8
 unfolding jobRecords bodyLength
 job r b = length-one 8 _
 
 -- the bytes of a segment's records, by its type
 abbrev pub recordsOf : ℕ → List ℕ → ℕ
 recordsOf type b =
-    cond (eqb type 1) 40
-    (cond (eqb type 2) (88 + targetCount b * 45)
-    (cond (eqb type 5) 70
-    (cond (eqb type 6) (25 + pieceCount (length b - 20) * 34)
-    (cond (eqb type 10) 15
-    (cond (eqb type 13) 24
-    (6 + pieceCount (length b) * 34))))))
+    cond (eqb type 1) (recordLength 2)
+    (cond (eqb type 2) (recordLength 3 + targetCount b * recordLength 4)
+    (cond (eqb type 5) (recordLength 8)
+    (cond (eqb type 6) (recordLength 5 + pieceCount (length b - 20) * recordLength 6)
+    (cond (eqb type 10) (recordLength 9)
+    (cond (eqb type 13) (recordLength 10)
+    (recordLength 7 + pieceCount (length b) * recordLength 6))))))
 
 -- it is that of the definition
 pub length-segment : (r : Reading) (type : ℕ) (b : List ℕ) → length (recordBytes (segmentRecords r (record { type = type; body = b }))) ≡ recordsOf type b

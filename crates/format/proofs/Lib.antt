@@ -2,6 +2,7 @@ pub mod Types
 pub mod Rows
 pub mod Records
 pub mod Listing
+pub mod Followers
 pub mod Lengths
 pub mod Segments
 pub mod Turns

@@ -1,13 +1,13 @@
 -- The records of a sheet, one after another as code goes through its bytes: what stands at a place, and what is left behind it.
 -- Assumes nothing.
-use mathlib.Core.Path.{_≡_, refl, sym, ap, _∙_}
-use mathlib.Core.Bool.{Bool, true, false, cond, _&&_, and-false, true≢false}
+use mathlib.Core.Path.{_≡_, refl}
+use mathlib.Core.Bool.{Bool, true, false, cond, _&&_, and-false}
 use mathlib.Core.List.{List, [], _∷_}
 use Prim.Native.Nat.{ℕ, zero, suc, _+_, _-_, _≤_, _<_}
 use native.Mathlib.Nat.{le-refl, not-suc-le-zero}
 use native.Mathlib.Numerals.{add-one}
 use native.Mathlib.Omega.{arith}
-use borrow.Author.Tests.{lt-ltb, le-leb, lt-leb, ltb-true, ltb-false, leb-true}
+use borrow.Author.Tests.{lt-ltb, le-leb, lt-leb, ltb-true, leb-true}
 use lib.Dec.{ltb, leb}
 use lib.ListN.{length, getD, take, drop, length-drop, drop-of-length-le}
 use lib.Seq.{drop-cons, drop-drop, length-take-le}
@@ -87,26 +87,3 @@ module _ (x : List ℕ) (at : ℕ) (h : at < length x) where
 pub listed-end : (x : List ℕ) (at : ℕ) → length x ≤ at → listed (drop at x) ≡ record { records = []; whole = true }
 unfolding list
 listed-end x at h = rw (drop-of-length-le x h)
-
--- on a sheet whose records are all whole, one stands at each place that a record ends at, and those behind it are whole too
-module _ (x : List ℕ) (at n : ℕ) (h : at < length x) (e : n ≡ bodyLength (getD x at 0)) (w : listed (drop at x) .whole ≡ true) where
-  pub whole-kind : 0 < n
-  whole-kind = go n e
-    where
-      go : (m : ℕ) → m ≡ bodyLength (getD x at 0) → 0 < m
-      go zero f = absurd (true≢false (sym w ∙ ap (λ (l : Listed). l .whole) (listed-none x at h (sym f))))
-      go (suc m) f = omega arith
-
-  pub whole-fits : at + 1 + n ≤ length x
-  whole-fits = go (ltb (length x - at - 1) n) refl
-    where
-      go : (b : Bool) → ltb (length x - at - 1) n ≡ b → at + 1 + n ≤ length x
-      go true f =
-          let c : length x - at - 1 < n = ltb-true (length x - at - 1) n f in
-          absurd (true≢false (sym w ∙ ap (λ (l : Listed). l .whole) (listed-cut x at h (omega (arith, e, c)))))
-      go false f =
-          let c : n ≤ length x - at - 1 = ltb-false (length x - at - 1) n f in
-          omega (arith, c)
-
-  pub whole-rest : listed (drop (at + 1 + n) x) .whole ≡ true
-  whole-rest = sym (ap (λ (l : Listed). l .whole) (listed-more x at h n e whole-kind whole-fits)) ∙ w

@@ -1,5 +1,5 @@
--- The longest sheet: a segment to which no row applies takes at most 45 bytes of the sheet for each 4 of the packet, so the sheet is
--- bounded by the packet, whatever the reading finds.
+-- The longest sheet: a segment to which no row applies takes at most a target's record of the sheet for each 4 bytes of the packet, so
+-- the sheet is bounded by the packet, whatever the reading finds.
 -- Assumes nothing.
 use Prim.Native.Nat.{ℕ, zero, suc, _+_, _-_, _*_, _≤_}
 use native.Mathlib.Nat.{mul-le-mul, not-suc-le-zero}
@@ -12,12 +12,13 @@ use lib.Dec.{ltb}
 use lib.ListN.{length, drop, length-append, length-drop}
 use Rattle.mask.specs.Fields.{announced, announcedLength}
 use Rattle.mask.specs.Mask.{isPlaced}
+use Rattle.format.specs.declared.Settings.{Settings}
 use Rattle.format.specs.declared.Reading.{Reading}
 use Rattle.format.specs.declared.Check.{Check}
 use Rattle.format.specs.declared.Check.the-variants.{Passed, Failed}
 use Rattle.format.specs.Packet.{Segment, typeAt, sizeAt, bodyAt}
 use Rattle.format.specs.Dwell.{maskOf, targetCount, targetLength}
-use Rattle.format.specs.Sheet.{bodyLength, headerRecord, pieceCount, segmentRecords, packetRecords, recordBytes}
+use Rattle.format.specs.Sheet.{bodyLength, recordLength, longestSheet, headerRecord, pieceCount, segmentRecords, packetRecords, recordBytes}
 use Rattle.format.specs.Rows.{firstRow, dwellRows, bodyRows, segmentRows}
 use Rattle.format.specs.Reader.{Parsed, onward, parse, readingOf, parsed, sheet}
 use Rattle.format.proofs.Types.{by-number}
@@ -65,10 +66,10 @@ unfolding pieceCount
 piece-count n = omega arith
 
 -- the bytes of the records of a segment to whose body no row applies, by its type
-records-short : (r : Reading) (type : ℕ) (b : List ℕ) → firstRow (bodyRows r type b) ≡ Passed → 4 * recordsOf type b ≤ 45 * (5 + length b)
+records-short : (r : Reading) (type : ℕ) (b : List ℕ) → firstRow (bodyRows r type b) ≡ Passed → 4 * recordsOf type b ≤ recordLength 4 * (5 + length b)
 unfolding bodyRows
 records-short r type b =
-    by-number (λ (t : ℕ). firstRow (bodyRows r t b) ≡ Passed → 4 * recordsOf t b ≤ 45 * (5 + length b))
+    by-number (λ (t : ℕ). firstRow (bodyRows r t b) ≡ Passed → 4 * recordsOf t b ≤ recordLength 4 * (5 + length b))
     (λ e. omega (arith, mission-length b e))
     (λ e. omega (arith, is-dwell r b e .exact, targets-length r b e))
     (λ e. omega (arith, job-length r b e))
@@ -79,11 +80,11 @@ records-short r type b =
     type
 
 -- those of a segment
-pub segment-short : (r : Reading) (s : Segment) → firstRow (bodyRows r (s .type) (s .body)) ≡ Passed → 4 * length (recordBytes (segmentRecords r s)) ≤ 45 * (5 + length (s .body))
+pub segment-short : (r : Reading) (s : Segment) → firstRow (bodyRows r (s .type) (s .body)) ≡ Passed → 4 * length (recordBytes (segmentRecords r s)) ≤ recordLength 4 * (5 + length (s .body))
 segment-short r s e = omega (arith, length-segment r (s .type) (s .body), records-short r (s .type) (s .body) e)
 
 -- and of all that the walk finds in l
-pub parse-short : (r : Reading) (k : ℕ) (l : List ℕ) → 4 * length (recordBytes (packetRecords r (parse r k l .segments))) ≤ 45 * length l
+pub parse-short : (r : Reading) (k : ℕ) (l : List ℕ) → 4 * length (recordBytes (packetRecords r (parse r k l .segments))) ≤ recordLength 4 * length l
 unfolding parse packetRecords recordBytes
 parse-short r zero l = omega arith
 parse-short r (suc k) [] = omega arith
@@ -97,21 +98,21 @@ parse-short r (suc k) (x ∷ xs) =
     first = record { type = typeAt (x ∷ xs); body = bodyAt (x ∷ xs) }
 
     go : (c : Check) → firstRow (segmentRows r (x ∷ xs)) ≡ c
-        → 4 * length (recordBytes (packetRecords r (rest .segments))) ≤ 45 * length (drop (sizeAt (x ∷ xs)) (x ∷ xs))
-        → 4 * length (recordBytes (packetRecords r (onward c first rest .segments))) ≤ 45 * length (x ∷ xs)
+        → 4 * length (recordBytes (packetRecords r (rest .segments))) ≤ recordLength 4 * length (drop (sizeAt (x ∷ xs)) (x ∷ xs))
+        → 4 * length (recordBytes (packetRecords r (onward c first rest .segments))) ≤ recordLength 4 * length (x ∷ xs)
     go Passed p i =
         let s = segment-passes r (x ∷ xs) p in
         rw (bytes-append (segmentRecords r first) (packetRecords r (rest .segments)), length-append)
         (omega (arith, segment-short r first (s .body), length-body (x ∷ xs) (s .within), s .header, s .within, length-drop (sizeAt (x ∷ xs)) (x ∷ xs)))
     go (Failed number field) p i = omega arith
 
--- the sheet of any packet: the header's record, and 45 bytes for each 4 behind the header
-pub sheet-short : (edition : ℕ) (l : List ℕ) → 4 * length (sheet edition l) ≤ 4 * 33 + 45 * (length l - 32)
+-- the sheet of any packet: the header's record, and a target's for each 4 bytes behind the header
+pub sheet-short : (settings : Settings) (l : List ℕ) → 4 * length (sheet settings l) ≤ 4 * recordLength 1 + recordLength 4 * (length l - 32)
 unfolding sheet headerRecord bodyLength parsed
-sheet-short edition l =
-    let r = readingOf edition l in
-    omega (arith, length-record 1 l (packetRecords r (parsed edition l .segments)), parse-short r (length (drop 32 l)) (drop 32 l), length-drop 32 l)
+sheet-short settings l =
+    let r = readingOf settings l in
+    omega (arith, length-record 1 l (packetRecords r (parsed settings l .segments)), parse-short r (length (drop 32 l)) (drop 32 l), length-drop 32 l)
 
--- a packet of at most 65,536 bytes has one of at most 736,953
-pub sheet-longest : (edition : ℕ) (l : List ℕ) → length l ≤ 65536 → length (sheet edition l) ≤ 736953
-sheet-longest edition l h = omega (arith, sheet-short edition l)
+-- that of a packet that is not too long (row 2)
+pub sheet-longest : (settings : Settings) (l : List ℕ) → length l ≤ 65536 → length (sheet settings l) ≤ longestSheet
+sheet-longest settings l h = omega (arith, sheet-short settings l)

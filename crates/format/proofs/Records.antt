@@ -12,6 +12,7 @@ use lib.Dec.{lit<}
 use lib.ListN.{length, length-append}
 use lib.Seq.{take-at, drop-at}
 use Rattle.octets.proofs.Layouts.{length-pad}
+use Rattle.format.specs.declared.Settings.{Settings}
 use Rattle.format.specs.declared.Reading.{Reading}
 use Rattle.format.specs.declared.Area.{Area}
 use Rattle.format.specs.Packet.{Segment}
@@ -102,7 +103,7 @@ list-back (suc k) (r ∷ rs) f h =
     )
 
 -- the records of a reading's sheet
-pub listed-sheet : (edition : ℕ) (l : List ℕ)
-    → listed (sheet edition l) ≡ record { records = headerRecord l ∷ packetRecords (readingOf edition l) (parsed edition l .segments); whole = true }
+pub listed-sheet : (settings : Settings) (l : List ℕ)
+    → listed (sheet settings l) ≡ record { records = headerRecord l ∷ packetRecords (readingOf settings l) (parsed settings l .segments); whole = true }
 unfolding sheet headerRecord bodyLength
-listed-sheet edition l = list-back _ _ (record-formed 1 l (lit< tt), packet-formed _ _) (le-refl _)
+listed-sheet settings l = list-back _ _ (record-formed 1 l (lit< tt), packet-formed _ _) (le-refl _)

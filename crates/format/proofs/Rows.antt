@@ -49,6 +49,11 @@ both-pass rs qs e = go (firstRow rs) refl (sym (first-append rs qs) ∙ e)
     go Passed h e = (h, e)
     go (Failed number field) h e = passed-not-failed number field (sym e)
 
+-- what holds of two things holds of the one that a test picks
+pub either : {A : Type 0} (P : A → Type 0) (t : Bool) {x y : A} → P x → P y → P (cond t x y)
+either P true h k = h
+either P false h k = k
+
 -- where "the one or the other" is false, both are
 pub neither : (a b : Bool) → (a || b) ≡ false → (a ≡ false) × (b ≡ false)
 neither true b e = absurd (true≢false e)

@@ -30,11 +30,7 @@ same-lists (x ∷ xs) (y ∷ ys) e = go (eqb x y) refl e (same-lists xs ys)
     go true p q i = ap₂ (λ (a : ℕ) (l : List ℕ). a ∷ l) (eqb-true x y p) (i q)
     go false p q i = absurd (true≢false (sym q))
 
--- equal lists pass the test
-pub same-when : (l m : List ℕ) → l ≡ m → isSame l m ≡ true
-same-when l m e = ap (λ (x : List ℕ). isSame x m) e ∙ same-itself m
-
--- and unequal ones fail it
+-- unequal ones fail it
 pub same-not : (l m : List ℕ) → (l ≡ m → ⊥) → isSame l m ≡ false
 same-not l m n = go (isSame l m) refl
   where

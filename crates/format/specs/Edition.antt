@@ -5,12 +5,17 @@ use mathlib.Core.Bool.{Bool, _&&_, _||_, cond}
 use mathlib.Core.List.{List}
 use lib.Dec.{eqb}
 use Rattle.octets.specs.Layout.{zeroed}
-use Rattle.mask.specs.Mask.{between}
+use Rattle.octets.specs.Octets.{between}
+use Rattle.format.specs.declared.Settings.{Settings}
 use Rattle.format.specs.declared.Reading.{Reading}
+
+-- a packet read as this edition, with nothing else asked for
+abbrev pub asEdition : ℕ → Settings
+asEdition n = record { edition = n }
 
 -- the Edition 1 reading of a version 3 packet. "Version 1 packets read alike under both readings, D27 and J26 shown."
 unfoldable pub isOlder : Reading → Bool
-isOlder r = eqb (r .edition) 1 && eqb (r .version) 3
+isOlder r = eqb (r .settings .edition) 1 && eqb (r .version) 3
 
 -- field n, which the older reading "withholds": "withheld and zeroed"
 unfoldable pub shown : Reading → ℕ → List ℕ → ℕ → List ℕ → List ℕ

@@ -6,9 +6,9 @@ use mathlib.Core.Bool.{Bool, _&&_, _||_}
 use mathlib.Core.List.{List, [], _∷_, _++_}
 use lib.Dec.{eqb}
 use lib.ListN.{length, getD, take, drop}
-use Rattle.octets.specs.Octets.{be, bytes}
+use Rattle.octets.specs.Octets.{be, bytes, between}
 use Rattle.octets.specs.Layout.{value}
-use Rattle.mask.specs.Mask.{between, isIn}
+use Rattle.mask.specs.Mask.{isIn}
 
 -- "Header fields, with widths in bytes: P1 version 2, P2 packet size 4, P3 nationality 2, P4 classification 1, P5 system 2,
 -- P6 code 2, P7 exercise 1, P8 platform 10, P9 mission 4, P10 job 4"

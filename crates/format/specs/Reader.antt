@@ -5,6 +5,7 @@ use mathlib.Core.Bool.{cond}
 use mathlib.Core.List.{List, [], _∷_}
 use lib.Dec.{leb, eqb}
 use lib.ListN.{length, drop}
+use Rattle.format.specs.declared.Settings.{Settings}
 use Rattle.format.specs.declared.Reading.{Reading}
 use Rattle.format.specs.declared.Check.{Check}
 use Rattle.format.specs.declared.Check.the-variants.{Passed, Failed}
@@ -44,17 +45,17 @@ unfoldable pub targetsIn : List Segment → ℕ
 targetsIn [] = 0
 targetsIn (s ∷ ss) = cond (eqb (s .type) 2) (targetCount (s .body)) 0 + targetsIn ss
 
--- the packet l, read as the edition
-abbrev pub readingOf : ℕ → List ℕ → Reading
-readingOf edition l = record { edition = edition; version = version l }
+-- the packet l, read with these settings
+abbrev pub readingOf : Settings → List ℕ → Reading
+readingOf settings l = record { settings = settings; version = version l }
 
 -- its segments, behind the header's 32 bytes
-unfoldable pub parsed : ℕ → List ℕ → Parsed
-parsed edition l = parse (readingOf edition l) (length (drop 32 l)) (drop 32 l)
+unfoldable pub parsed : Settings → List ℕ → Parsed
+parsed settings l = parse (readingOf settings l) (length (drop 32 l)) (drop 32 l)
 
 -- its sheet: the header's record, and those of its segments
-unfoldable pub sheet : ℕ → List ℕ → List ℕ
-sheet edition l = recordBytes (headerRecord l ∷ packetRecords (readingOf edition l) (parsed edition l .segments))
+unfoldable pub sheet : Settings → List ℕ → List ℕ
+sheet settings l = recordBytes (headerRecord l ∷ packetRecords (readingOf settings l) (parsed settings l .segments))
 
 -- the answer after the header, where the sheet has so many bytes and so many are lent. "16 sheet too short" comes at the end
 abbrev pub segmentsAnswer : Parsed → ℕ → ℕ → Answer
@@ -65,15 +66,15 @@ segmentsAnswer p sheetLength lent =
     ]
 
 -- "An answer has number, segment (from 1; 0 for call, header and end), field."
-unfoldable pub readingAnswer : ℕ → List ℕ → ℕ → Answer
-readingAnswer edition l lent =
-    elim (firstRow (headerRows edition l)) [
-      | Passed ↦ segmentsAnswer (parsed edition l) (length (sheet edition l)) lent
+unfoldable pub readingAnswer : Settings → List ℕ → ℕ → Answer
+readingAnswer settings l lent =
+    elim (firstRow (headerRows settings l)) [
+      | Passed ↦ segmentsAnswer (parsed settings l) (length (sheet settings l)) lent
       | Failed number field ↦ Refused number 0 field
     ]
 
 -- the answer, and what the lent sheet then holds
-unfoldable pub read : ℕ → List ℕ → List ℕ → Outcome
-read edition l lent =
-    let a = readingAnswer edition l (length lent) in
-    outcome a (leftBy a (sheet edition l) lent)
+unfoldable pub read : Settings → List ℕ → List ℕ → Outcome
+read settings l lent =
+    let a = readingAnswer settings l (length lent) in
+    outcome a (leftBy a (sheet settings l) lent)

@@ -10,8 +10,10 @@ use lib.ListN.{length, drop}
 use lib.Signed.{ltZ}
 use Rattle.text.specs.Text.{textFault}
 use Rattle.mask.specs.Fields.{dwellSize, d32}
-use Rattle.mask.specs.Mask.{between, lowestFault, newInMask, isPlaced}
+use Rattle.octets.specs.Octets.{between}
+use Rattle.mask.specs.Mask.{lowestFault, newInMask, isPlaced}
 use Rattle.position.specs.Position.{isLatitude}
+use Rattle.format.specs.declared.Settings.{Settings}
 use Rattle.format.specs.declared.Reading.{Reading}
 use Rattle.format.specs.declared.Area.{Area}
 use Rattle.format.specs.declared.Check.{Check}
@@ -41,9 +43,9 @@ firstRow (r ∷ rs) = cond (r .applies) (Failed (r .number) (r .field)) (firstRo
 
 -- the call, "reading not 1 or 3"; the header, "length", "P1", "P2 not the length", "text, first field": l is the packet, read as this
 -- edition. "A packet has 32 to 65,536 bytes."
-unfoldable pub headerRows : ℕ → List ℕ → List Row
-headerRows edition l =
-    row 1 0 (not (eqb edition 1 || eqb edition 3))
+unfoldable pub headerRows : Settings → List ℕ → List Row
+headerRows settings l =
+    row 1 0 (not (eqb (settings .edition) 1 || eqb (settings .edition) 3))
     ∷ row 2 0 (ltb (length l) 32 || ltb 65536 (length l))
     ∷ row 3 0 (not (isP1 l))
     ∷ row 4 0 (not (eqb (P 2 l) (length l)))

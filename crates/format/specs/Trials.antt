@@ -8,6 +8,7 @@ use lib.IntN.{pos, negsuc}
 use lib.ListN.{length, take, drop, set}
 use Rattle.octets.specs.Octets.{be, signed}
 use Rattle.position.specs.Trials.{marked as positions}
+use Rattle.format.specs.Edition.{asEdition}
 use Rattle.format.specs.declared.Answer.{Answer}
 use Rattle.format.specs.declared.Answer.the-variants.{Accepted, Refused}
 use Rattle.format.specs.Answer.{outcome}
@@ -17,18 +18,18 @@ use Rattle.format.specs.Samples.{zeros, version1, version3, segment, emp
 
 -- the Edition 1 reading with the program's sheet of 65,536 bytes
 abbrev pub read1 : List ℕ → Answer
-read1 l = readingAnswer 1 l 65536
+read1 l = readingAnswer (asEdition 1) l 65536
 
 -- the Edition 3 reading, as the program has it
 abbrev pub read3 : List ℕ → Answer
-read3 l = readingAnswer 3 l 65536
+read3 l = readingAnswer (asEdition 3) l 65536
 
 -- those of whole packets
 unfoldable pub packets : List (Type 0)
 packets =
     -- "D24 0x7FFFFFFF, D10 1: D32.4 1 is 90000000, 2 gives 14"
     (read3 (northmost 1) ≡ Accepted 1 1 1 166)
-    ∷ (signed 4 (drop 158 (sheet 3 (northmost 1))) ≡ pos 90000000)
+    ∷ (signed 4 (drop 158 (sheet (asEdition 3) (northmost 1))) ≡ pos 90000000)
     ∷ (read3 (northmost 2) ≡ Refused 14 1 35)
     -- "mask bytes FF 00 03 C0 00 00 00 00, D5 0: S2 48 accepted, 49 gives 12"
     ∷ (read3 (version3 (empty 0xFF00_03C0_0000_0000 0)) ≡ Accepted 1 1 0 121)
@@ -47,15 +48,15 @@ printedResults =
     -- "ok 1 1 1 166" and "-351563 359648438": latitude and longitude are the last 8 bytes of the sheet
     ∷ (length printed ≡ 92)
     ∷ (read3 printed ≡ Accepted 1 1 1 166)
-    ∷ (length (sheet 3 printed) ≡ 166)
-    ∷ (signed 4 (drop 158 (sheet 3 printed)) ≡ negsuc 351562)
-    ∷ (be 4 (drop 162 (sheet 3 printed)) ≡ 359648438)
+    ∷ (length (sheet (asEdition 3) printed) ≡ 166)
+    ∷ (signed 4 (drop 158 (sheet (asEdition 3) printed)) ≡ negsuc 351562)
+    ∷ (be 4 (drop 162 (sheet (asEdition 3) printed)) ≡ 359648438)
     -- row 16 comes where the sheet is one byte too short, and not earlier
-    ∷ (readingAnswer 3 printed 166 ≡ Accepted 1 1 1 166)
-    ∷ (readingAnswer 3 printed 165 ≡ Refused 16 0 0)
+    ∷ (readingAnswer (asEdition 3) printed 166 ≡ Accepted 1 1 1 166)
+    ∷ (readingAnswer (asEdition 3) printed 165 ≡ Refused 16 0 0)
     -- the seven numbers: number, segment, field, segments, dwells, targets, length
-    ∷ (read 3 printed (zeros 166) .numbers ≡ 0 ∷ 0 ∷ 0 ∷ 1 ∷ 1 ∷ 1 ∷ 166 ∷ [])
-    ∷ (read 3 (northmost 2) (zeros 166) .numbers ≡ 14 ∷ 1 ∷ 35 ∷ 0 ∷ 0 ∷ 0 ∷ 0 ∷ [])
+    ∷ (read (asEdition 3) printed (zeros 166) .numbers ≡ 0 ∷ 0 ∷ 0 ∷ 1 ∷ 1 ∷ 1 ∷ 166 ∷ [])
+    ∷ (read (asEdition 3) (northmost 2) (zeros 166) .numbers ≡ 14 ∷ 1 ∷ 35 ∷ 0 ∷ 0 ∷ 0 ∷ 0 ∷ [])
     ∷ []
 
 -- masks and rules go by the version; what is new in a version 3 packet, read as Edition 1, gives 15
@@ -81,31 +82,31 @@ editions =
     ∷ (read1 (version3 (job 94)) ≡ Accepted 1 0 0 103)
     ∷ (read1 (version1 (job 96)) ≡ Accepted 1 0 0 103)
     -- D27 and its mark, at 111 and 120 of the sheet: shown by Edition 3 and of version 1, else withheld
-    ∷ (be 2 (drop 111 (sheet 3 (version3 (empty 0xFF00_03C0_0000_0000 0)))) ≡ 0x1234)
-    ∷ (drop 120 (sheet 3 (version3 (empty 0xFF00_03C0_0000_0000 0))) ≡ 1 ∷ [])
-    ∷ (be 2 (drop 111 (sheet 1 (version3 (empty 0xFF00_03C0_0000_0000 0)))) ≡ 0)
-    ∷ (drop 120 (sheet 1 (version3 (empty 0xFF00_03C0_0000_0000 0))) ≡ 0 ∷ [])
-    ∷ (be 2 (drop 111 (sheet 1 (version1 (empty 0xFF00_03C0_0000_0000 0)))) ≡ 0x1234)
-    ∷ (drop 120 (sheet 1 (version1 (empty 0xFF00_03C0_0000_0000 0))) ≡ 1 ∷ [])
+    ∷ (be 2 (drop 111 (sheet (asEdition 3) (version3 (empty 0xFF00_03C0_0000_0000 0)))) ≡ 0x1234)
+    ∷ (drop 120 (sheet (asEdition 3) (version3 (empty 0xFF00_03C0_0000_0000 0))) ≡ 1 ∷ [])
+    ∷ (be 2 (drop 111 (sheet (asEdition 1) (version3 (empty 0xFF00_03C0_0000_0000 0)))) ≡ 0)
+    ∷ (drop 120 (sheet (asEdition 1) (version3 (empty 0xFF00_03C0_0000_0000 0))) ≡ 0 ∷ [])
+    ∷ (be 2 (drop 111 (sheet (asEdition 1) (version1 (empty 0xFF00_03C0_0000_0000 0)))) ≡ 0x1234)
+    ∷ (drop 120 (sheet (asEdition 1) (version1 (empty 0xFF00_03C0_0000_0000 0))) ≡ 1 ∷ [])
     -- J26 and its mark, the last but two and the last byte of the sheet
-    ∷ (drop 99 (sheet 3 (version3 (job 94))) ≡ 0x56 ∷ 0 ∷ 0 ∷ 1 ∷ [])
-    ∷ (drop 99 (sheet 1 (version3 (job 94))) ≡ 0 ∷ 0 ∷ 0 ∷ 0 ∷ [])
+    ∷ (drop 99 (sheet (asEdition 3) (version3 (job 94))) ≡ 0x56 ∷ 0 ∷ 0 ∷ 1 ∷ [])
+    ∷ (drop 99 (sheet (asEdition 1) (version3 (job 94))) ≡ 0 ∷ 0 ∷ 0 ∷ 0 ∷ [])
     ∷ []
 
 -- a packet's sheet is written back as that packet; rows 17 to 20 in their order
 unfoldable pub writing : List (Type 0)
 writing =
-    (write (sheet 3 printed) (zeros 93) ≡ outcome (Accepted 1 1 1 92) (printed ++ 0 ∷ []))
-    ∷ (write (sheet 3 (version3 (freeText 33))) (zeros 90) ≡ outcome (Accepted 1 0 0 90) (version3 (freeText 33)))
+    (write (sheet (asEdition 3) printed) (zeros 93) ≡ outcome (Accepted 1 1 1 92) (printed ++ 0 ∷ []))
+    ∷ (write (sheet (asEdition 3) (version3 (freeText 33))) (zeros 90) ≡ outcome (Accepted 1 0 0 90) (version3 (freeText 33)))
     ∷ (write [] (zeros 2) ≡ outcome (Refused 17 0 0) (zeros 2))
     -- a cut record is 17 though the target before it is missing, which would be 18
-    ∷ (write (take 121 (sheet 3 printed) ++ 4 ∷ []) (zeros 2) .answer ≡ Refused 17 0 0)
-    ∷ (write (take 121 (sheet 3 printed)) (zeros 92) .answer ≡ Refused 18 0 0)
+    ∷ (write (take 121 (sheet (asEdition 3) printed) ++ 4 ∷ []) (zeros 2) .answer ≡ Refused 17 0 0)
+    ∷ (write (take 121 (sheet (asEdition 3) printed)) (zeros 92) .answer ≡ Refused 18 0 0)
     -- a mark of 0 is 19, also where the buffer is too short
-    ∷ (write (set (sheet 3 printed) 120 0) (zeros 92) .answer ≡ Refused 19 0 0)
-    ∷ (write (set (sheet 3 printed) 120 0) [] .answer ≡ Refused 19 0 0)
+    ∷ (write (set (sheet (asEdition 3) printed) 120 0) (zeros 92) .answer ≡ Refused 19 0 0)
+    ∷ (write (set (sheet (asEdition 3) printed) 120 0) [] .answer ≡ Refused 19 0 0)
     -- a byte in the filling of a piece is 19; a count of 2 in place of 1 is 18
-    ∷ (write (set (sheet 3 (version3 (freeText 33))) 125 1) (zeros 90) .answer ≡ Refused 19 0 0)
-    ∷ (write (set (sheet 3 (version3 (freeText 33))) 93 2) (zeros 90) .answer ≡ Refused 18 0 0)
-    ∷ (write (sheet 3 printed) (zeros 91) ≡ outcome (Refused 20 0 0) (zeros 91))
+    ∷ (write (set (sheet (asEdition 3) (version3 (freeText 33))) 125 1) (zeros 90) .answer ≡ Refused 19 0 0)
+    ∷ (write (set (sheet (asEdition 3) (version3 (freeText 33))) 93 2) (zeros 90) .answer ≡ Refused 18 0 0)
+    ∷ (write (sheet (asEdition 3) printed) (zeros 91) ≡ outcome (Refused 20 0 0) (zeros 91))
     ∷ []

@@ -1,12 +1,13 @@
 -- The writer: from a sheet of any bytes back to the packet (document 01, 'Writing back' and rows 17 to 20).
 -- Assumes nothing.
-use Prim.Native.Nat.{ℕ, zero, suc, _+_, _-_, min}
+use Prim.Native.Nat.{ℕ, zero, suc, _-_, min}
 use mathlib.Core.Bool.{Bool, true, false, not, _&&_, _||_, cond}
 use mathlib.Core.List.{List, [], _∷_, _++_}
 use lib.Dec.{ltb, leb, eqb}
 use lib.ListN.{length, getD, take, drop}
 use Rattle.octets.specs.Octets.{be}
 use Rattle.mask.specs.Fields.{announcedFields, dwellWidths, targetWidths, d32}
+use Rattle.format.specs.Edition.{asEdition}
 use Rattle.format.specs.declared.Check.{Check}
 use Rattle.format.specs.declared.Check.the-variants.{Passed, Failed}
 use Rattle.format.specs.declared.Answer.{Answer}
@@ -53,32 +54,44 @@ isHeaded (r ∷ rs) = eqb (r .kind) 1 && noHeader rs
 -- ---- row 18: "a kind 3, 5 or 7 not followed directly by exactly the kind 4 or 6 records, with the counts, that it calls for; a
 -- kind 4 or 6 anywhere else"
 
--- what a record calls for: so many targets, or pieces of so many bytes; of no other kind, nothing
+-- what is due next: records of which kind, and how much is left of them, counted in targets or in the bytes that pieces carry
 pub record Due : Type 0 where
-  pub targets : ℕ
-  pub bytes : ℕ
+  pub kind : ℕ
+  pub left : ℕ
 
--- D5 of a kind 3, the length of F3 of a kind 5, the body's length of a kind 7, each as the record has it
+-- of this kind, so much; where nothing is due, 0 of none
+abbrev pub due : ℕ → ℕ → Due
+due kind left = record { kind = kind; left = left }
+
+-- what a record "calls for": a kind 3 its D5 targets; a kind 5 pieces for F3, and a kind 7 for its body, of the length that stands in
+-- the record; any other nothing
 unfoldable pub calledFor : Record → Due
-calledFor r = record {
-  targets = cond (eqb (r .kind) 3) (D 5 (drop 8 (r .body))) 0;
-  bytes = cond (eqb (r .kind) 5) (be 4 (drop 20 (r .body))) (cond (eqb (r .kind) 7) (be 4 (drop 1 (r .body))) 0);
-}
+calledFor r =
+    cond (eqb (r .kind) 3) (due 4 (D 5 (drop 8 (r .body))))
+    (cond (eqb (r .kind) 5) (due 6 (be 4 (drop 20 (r .body))))
+    (cond (eqb (r .kind) 7) (due 6 (be 4 (drop 1 (r .body))))
+    (due 0 0)))
 
--- a record that follows another one: a target, or a piece with its count
+-- "a kind 4 or 6": a target or a piece, which stands only behind a record that calls for it
 abbrev pub isFollower : Record → Bool
 isFollower r = eqb (r .kind) 4 || eqb (r .kind) 6
 
--- the records have all that is called for, first what is due from before: each due target is one record, and each due piece has the
--- count 32 or, the last, what is left
+-- how much of what is left is due in the next record: 32 bytes in a piece, or what is left in the last one; else one target
+abbrev pub share : Due → ℕ
+share d = cond (eqb (d .kind) 6) (min 32 (d .left)) 1
+
+-- how much a record has: a piece as many bytes as it counts; else it is one target
+abbrev pub carried : Record → ℕ
+carried r = cond (eqb (r .kind) 6) (getD (r .body) 0 0) 1
+
+-- first what is left of what was called for, "followed directly by exactly the kind 4 or 6 records, with the counts"; then no "kind 4 or 6
+-- anywhere else", but a record and what it calls for
 unfoldable pub isComplete : Due → List Record → Bool
-isComplete due [] = eqb (due .targets) 0 && eqb (due .bytes) 0
-isComplete due (r ∷ rs) =
-    cond (ltb 0 (due .targets))
-    (eqb (r .kind) 4 && isComplete (record { targets = due .targets - 1; bytes = 0 }) rs)
-    (cond (ltb 0 (due .bytes))
-    (eqb (r .kind) 6 && eqb (getD (r .body) 0 0) (min 32 (due .bytes)) && isComplete (record { targets = 0; bytes = due .bytes - 32 }) rs)
-    (not (isFollower r) && isComplete (calledFor r) rs))
+isComplete d [] = eqb (d .left) 0
+isComplete d (r ∷ rs) =
+    cond (ltb 0 (d .left))
+    (eqb (r .kind) (d .kind) && eqb (carried r) (share d) && isComplete (due (d .kind) (d .left - share d)) rs)
+    (not (isFollower r) && isComplete (calledFor r) rs)
 
 -- ---- the spelt packet: "the header, then each segment with S2 worked out and only announced fields"
 
@@ -93,36 +106,39 @@ typeOf r =
     (cond (eqb (r .kind) 10) 13
     (getD (r .body) 0 0))))))
 
--- the bytes of the segment's body that a record gives; a target's by the mask of its dwell
-unfoldable pub given : ℕ → Record → List ℕ
-given mask r =
+-- what a record gives to the body of the segment that it begins: a dwell its mask and announced fields, a text F1 and F2, an opaque one
+-- nothing, a job definition all but the mark, any other all
+unfoldable pub given : Record → List ℕ
+given r =
     let b = r .body in
     cond (eqb (r .kind) 3) (take 8 b ++ announcedFields (be 8 b) 2 dwellWidths (drop 8 b))
-    (cond (eqb (r .kind) 4) (announcedFields mask (d32 1) targetWidths b)
     (cond (eqb (r .kind) 5) (take 20 b)
-    (cond (eqb (r .kind) 6) (take (getD b 0 0) (drop 1 b))
     (cond (eqb (r .kind) 7) []
     (cond (eqb (r .kind) 8) (take 68 b)
-    b)))))
+    b)))
 
--- the mask for the targets that follow a record
-unfoldable pub maskAfter : Record → ℕ
-maskAfter r = cond (eqb (r .kind) 3) (be 8 (r .body)) 0
+-- what a follower gives to the body of the segment that its leader began: a target the fields that the leader's mask announces, a
+-- piece the bytes that it counts
+unfoldable pub givenBehind : Record → Record → List ℕ
+givenBehind leader r =
+    let b = r .body in
+    cond (eqb (r .kind) 4) (announcedFields (be 8 (leader .body)) (d32 1) targetWidths b)
+    (take (getD b 0 0) (drop 1 b))
 
 -- the segments that records give, and before them what followers at the front give to a segment begun earlier
 pub record Regrouped : Type 0 where
   pub front : List ℕ
   pub segments : List Segment
 
--- a follower's bytes go to the segment that the record before it belongs to; every other record begins a segment
-unfoldable pub regroup : ℕ → List Record → Regrouped
-regroup mask [] = record { front = []; segments = [] }
-regroup mask (r ∷ rs) =
+-- a follower's bytes go to the segment that the leader began; every other record begins a segment, and is the leader from there on
+unfoldable pub regroup : Record → List Record → Regrouped
+regroup leader [] = record { front = []; segments = [] }
+regroup leader (r ∷ rs) =
     cond (isFollower r)
-    (let rest = regroup mask rs in
-    record { front = given mask r ++ rest .front; segments = rest .segments })
-    (let rest = regroup (maskAfter r) rs in
-    record { front = []; segments = record { type = typeOf r; body = given mask r ++ rest .front } ∷ rest .segments })
+    (let rest = regroup leader rs in
+    record { front = givenBehind leader r ++ rest .front; segments = rest .segments })
+    (let rest = regroup r rs in
+    record { front = []; segments = record { type = typeOf r; body = given r ++ rest .front } ∷ rest .segments })
 
 -- the segments' bytes, one after another
 unfoldable pub segmentsBytes : List Segment → List ℕ
@@ -132,7 +148,7 @@ segmentsBytes (s ∷ ss) = segmentBytes s ++ segmentsBytes ss
 -- the header is as its record has it, P2 too
 unfoldable pub spellRecords : List Record → List ℕ
 spellRecords [] = []
-spellRecords (header ∷ rs) = header .body ++ segmentsBytes (regroup 0 rs .segments)
+spellRecords (header ∷ rs) = header .body ++ segmentsBytes (regroup header rs .segments)
 
 -- the packet that a sheet spells
 unfoldable pub spell : List ℕ → List ℕ
@@ -154,13 +170,13 @@ isSame (x ∷ xs) (y ∷ ys) = eqb x y && isSame xs ys
 
 -- "the Edition 3 reading of the spelt bytes, given a sheet as long, is this sheet"
 unfoldable pub readsBack : List ℕ → List ℕ → Bool
-readsBack packet x = isAccepted (readingAnswer 3 packet (length x)) && isSame (sheet 3 packet) x
+readsBack packet x = isAccepted (readingAnswer (asEdition 3) packet (length x)) && isSame (sheet (asEdition 3) packet) x
 
 -- ---- the rows "are tried in that order over the whole sheet". Those of the sheet alone, and the one of the lent packet buffer
 unfoldable pub sheetRows : List ℕ → List Row
 sheetRows x =
     row 17 0 (not (listed x .whole && isHeaded (listed x .records)))
-    ∷ row 18 0 (not (isComplete (record { targets = 0; bytes = 0 }) (listed x .records)))
+    ∷ row 18 0 (not (isComplete (due 0 0) (listed x .records)))
     ∷ row 19 0 (ltb 65536 (length (spell x)) || not (readsBack (spell x) x))
     ∷ []
 
@@ -172,7 +188,7 @@ writerRows x lent = sheetRows x ++ row 20 0 (ltb lent (length (spell x))) ∷ []
 -- "(the writer: packet length)"
 abbrev pub writerAnswer : List ℕ → Check → Answer
 writerAnswer x Passed =
-    let segments = parsed 3 (spell x) .segments in
+    let segments = parsed (asEdition 3) (spell x) .segments in
     Accepted (length segments) (dwellsIn segments) (targetsIn segments) (length (spell x))
 writerAnswer x (Failed number field) = Refused number 0 0
 

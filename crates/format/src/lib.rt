@@ -1,8 +1,13 @@
 // The values that the definitions of this crate speak of.
 
-// A reading, document 01's term: the edition whose tables are used, and the version of the packet that is read, from its P1.
-pub struct Reading {
+// What the caller asks of a reading: the edition whose tables are used. A further setting becomes a field here.
+pub struct Settings {
     pub edition: u32,
+}
+
+// A reading, document 01's term: what is asked for, and the version of the packet that is read, from its P1.
+pub struct Reading {
+    pub settings: Settings,
     pub version: u8,
 }
 
@@ -20,31 +25,34 @@ pub enum Check {
     // No row applies.
     Passed,
     // The number and the field of the first row that applies.
-    Failed { number: usize, field: usize },
+    Failed(usize, usize),
 }
 
 // The answer of a reading or of the writer. specs/Answer.antt states the seven numbers of each case.
 pub enum Answer {
-    Accepted {
-        segments: usize,
-        dwells: usize,
-        targets: usize,
-        length: usize,
-    },
-    Refused {
-        number: usize,
-        segment: usize,
-        field: usize,
-    },
+    // Segments, dwells, targets, and the length of the sheet or of the packet.
+    Accepted(usize, usize, usize, usize),
+    // Number, segment and field.
+    Refused(usize, usize, usize),
 }
 
-// The records of a sheet: the kind of each, and the length that the kind fixes for its body.
+// The longest packet that row 2 lets pass.
+pub const LONGEST_PACKET: usize = 65536;
+
+// The longest sheet that a packet has: nothing grows more than a target of 4 bytes, which becomes a whole record.
+pub const LONGEST_SHEET: usize = HeaderRecord::WHOLE
+    + (LONGEST_PACKET - HeaderRecord::LEN) * TargetRecord::WHOLE / 4;
+
+// The records of a sheet: the kind of each, the length that the kind fixes for its body, and that of the whole record. Places are counted from
+// the body's first byte.
 pub struct HeaderRecord {}
 
 impl HeaderRecord {
     pub const KIND: u8 = 1;
 
     pub const LEN: usize = 32;
+
+    pub const WHOLE: usize = 1 + HeaderRecord::LEN;
 }
 
 pub struct MissionRecord {}
@@ -53,6 +61,8 @@ impl MissionRecord {
     pub const KIND: u8 = 2;
 
     pub const LEN: usize = 39;
+
+    pub const WHOLE: usize = 1 + MissionRecord::LEN;
 }
 
 pub struct DwellRecord {}
@@ -61,6 +71,15 @@ impl DwellRecord {
     pub const KIND: u8 = 3;
 
     pub const LEN: usize = 87;
+
+    pub const WHOLE: usize = 1 + DwellRecord::LEN;
+
+    pub const D5: usize = 13;
+
+    pub const D27: usize = 77;
+
+    // The mark of D27.
+    pub const MARK: usize = DwellRecord::LEN - 1;
 }
 
 pub struct TargetRecord {}
@@ -69,6 +88,12 @@ impl TargetRecord {
     pub const KIND: u8 = 4;
 
     pub const LEN: usize = 44;
+
+    pub const WHOLE: usize = 1 + TargetRecord::LEN;
+
+    pub const LATITUDE: usize = 36;
+
+    pub const LONGITUDE: usize = 40;
 }
 
 pub struct TextRecord {}
@@ -77,6 +102,11 @@ impl TextRecord {
     pub const KIND: u8 = 5;
 
     pub const LEN: usize = 24;
+
+    pub const WHOLE: usize = 1 + TextRecord::LEN;
+
+    // The length of F3, behind F1 and F2.
+    pub const F3_LENGTH: usize = 20;
 }
 
 pub struct PieceRecord {}
@@ -85,6 +115,14 @@ impl PieceRecord {
     pub const KIND: u8 = 6;
 
     pub const LEN: usize = 33;
+
+    pub const WHOLE: usize = 1 + PieceRecord::LEN;
+
+    // The bytes stand behind the count.
+    pub const BYTES: usize = 1;
+
+    // A full piece has so many.
+    pub const FULL: usize = PieceRecord::LEN - 1;
 }
 
 pub struct OpaqueRecord {}
@@ -93,6 +131,11 @@ impl OpaqueRecord {
     pub const KIND: u8 = 7;
 
     pub const LEN: usize = 5;
+
+    pub const WHOLE: usize = 1 + OpaqueRecord::LEN;
+
+    // The length of the segment's body, behind its type.
+    pub const BODY_LENGTH: usize = 1;
 }
 
 pub struct JobRecord {}
@@ -101,6 +144,13 @@ impl JobRecord {
     pub const KIND: u8 = 8;
 
     pub const LEN: usize = 69;
+
+    pub const WHOLE: usize = 1 + JobRecord::LEN;
+
+    pub const J26: usize = 65;
+
+    // The mark of J26.
+    pub const MARK: usize = JobRecord::LEN - 1;
 }
 
 pub struct TestRecord {}
@@ -109,6 +159,8 @@ impl TestRecord {
     pub const KIND: u8 = 9;
 
     pub const LEN: usize = 14;
+
+    pub const WHOLE: usize = 1 + TestRecord::LEN;
 }
 
 pub struct LocationRecord {}
@@ -117,4 +169,6 @@ impl LocationRecord {
     pub const KIND: u8 = 10;
 
     pub const LEN: usize = 23;
+
+    pub const WHOLE: usize = 1 + LocationRecord::LEN;
 }

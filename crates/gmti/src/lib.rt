@@ -4,23 +4,20 @@
 ghost use mathlib.Core.Path.{_≡_};
 ghost use Prim.Native.Nat.{ℕ, _^_, _<_};
 ghost use lib.ListN.{getD};
+ghost use Rattle.format.specs.Edition.{asEdition};
 ghost use Rattle.format.specs.Answer.{numbersOf};
 ghost use Rattle.format.specs.Reader.{read as readOutcome};
 ghost use Rattle.format.specs.Writer.{write as writeOutcome};
+use format::Answer;
 
 // The seven numbers of an answer, in their order: number, segment, field, segments, dwells, targets, length. A caller in C takes 32 bits of each,
 // so they must fit; those of both calls below do, whatever they are given (crate demands, proofs/Numbers.antt).
-fn put_numbers(a: format::Answer, o: &mut [u32; 7])
+fn put_numbers(a: Answer, o: &mut [u32; 7])
     requires { ⌜ ((i : ℕ) → getD (numbersOf a) i 0 < 2 ^ 32) ⌝ }
     ensures { λ _. ⌜ now (o .exit) ≡ numbersOf a ⌝ }
 {
     match a {
-        format::Answer::Accepted {
-            segments,
-            dwells,
-            targets,
-            length,
-        } => {
+        Answer::Accepted(segments, dwells, targets, length) => {
             *o = [
                 0,
                 0,
@@ -31,11 +28,7 @@ fn put_numbers(a: format::Answer, o: &mut [u32; 7])
                 length as u32,
             ];
         }
-        format::Answer::Refused {
-            number,
-            segment,
-            field,
-        } => {
+        Answer::Refused(number, segment, field) => {
             *o = [number as u32, segment as u32, field as u32, 0, 0, 0, 0];
         }
     }
@@ -45,8 +38,8 @@ fn put_numbers(a: format::Answer, o: &mut [u32; 7])
 // void gmti_read(uint32_t edition, const uint8_t *packet, size_t packet_length, uint8_t *sheet, size_t sheet_length, uint32_t *answer)
 #[no_mangle]
 pub extern "C" fn gmti_read(edition: u32, packet: &[u8], sheet: &mut [u8], answer: &mut [u32; 7])
-    ensures { λ _. ⌜ now (answer .exit) ≡ readOutcome edition (now (packet .entry)) (now (sheet .entry)) .numbers ⌝ }
-    ensures { λ _. ⌜ now (sheet .exit) ≡ readOutcome edition (now (packet .entry)) (now (sheet .entry)) .left ⌝ }
+    ensures { λ _. ⌜ now (answer .exit) ≡ readOutcome (asEdition edition) (now (packet .entry)) (now (sheet .entry)) .numbers ⌝ }
+    ensures { λ _. ⌜ now (sheet .exit) ≡ readOutcome (asEdition edition) (now (packet .entry)) (now (sheet .entry)) .left ⌝ }
 {
     put_numbers(reader::read(edition, packet, sheet), answer);
 }

@@ -7,6 +7,7 @@ use mathlib.Core.List.{List}
 use lib.Dec.{eqb}
 use lib.ListN.{take}
 use Rattle.octets.specs.Layout.{over}
+use Rattle.format.specs.Edition.{asEdition}
 use Rattle.format.specs.declared.Answer.{Answer}
 use Rattle.format.specs.declared.Answer.the-variants.{Accepted, Refused}
 use Rattle.format.specs.Answer.{Outcome, outcome}
@@ -88,15 +89,15 @@ verdictBy l buffer newer older =
 
 module _ (l lent1 lent3 buffer left3 : List ℕ) where
   -- the Edition 3 reading refuses
-  pub verdict-refused : (a : Answer) (number segment field : ℕ) → outcome a left3 ≡ read 3 l lent3 → a ≡ Refused number segment field
+  pub verdict-refused : (a : Answer) (number segment field : ℕ) → outcome a left3 ≡ read (asEdition 3) l lent3 → a ≡ Refused number segment field
       → NotRead ≡ verdict l lent1 lent3 buffer
   unfolding verdict
   verdict-refused a number segment field e r =
-      ap (λ (x : Outcome). verdictBy l buffer x (read 1 l lent1)) (ap (λ (x : Answer). outcome x left3) (sym r) ∙ e)
+      ap (λ (x : Outcome). verdictBy l buffer x (read (asEdition 1) l lent1)) (ap (λ (x : Answer). outcome x left3) (sym r) ∙ e)
 
   -- it accepts: the Edition 1 reading decides
-  pub verdict-read : (s d t n : ℕ) (a1 : Answer) (left1 : List ℕ) → outcome (Accepted s d t n) left3 ≡ read 3 l lent3
-      → outcome a1 left1 ≡ read 1 l lent1
+  pub verdict-read : (s d t n : ℕ) (a1 : Answer) (left1 : List ℕ) → outcome (Accepted s d t n) left3 ≡ read (asEdition 3) l lent3
+      → outcome a1 left1 ≡ read (asEdition 1) l lent1
       → (v : Verdict) → v ≡ olderVerdict l s d t n a1 left1 left3 buffer
       → v ≡ verdict l lent1 lent3 buffer
   unfolding verdict

@@ -9,6 +9,7 @@ use native.Mathlib.Nat.{eq-or-lt-of-le}
 use native.Mathlib.Omega.{arith}
 use lib.ListN.{length, take, drop, set, length-drop, drop-of-length-le}
 use lib.Seq.{sets, sets-eq, take-all, take-at}
+use Rattle.format.specs.Edition.{asEdition}
 use Rattle.format.specs.declared.Answer.{Answer}
 use Rattle.format.specs.Reader.{read}
 use Rattle.printing.specs.Printing.{answerText}
@@ -109,8 +110,8 @@ pub packet-said : (line lent1 lent3 buffer : List ℕ) {name : ℕ} {l : List �
     → name ≡ before 58 line
     → l ≡ unhexed (hexOf line)
     → v ≡ verdict l lent1 lent3 buffer
-    → newer ≡ read 3 l lent3 .answer
-    → older ≡ read 1 l lent1 .answer
+    → newer ≡ read (asEdition 3) l lent3 .answer
+    → older ≡ read (asEdition 1) l lent1 .answer
     → take name line ++ (58 ∷ 32 ∷ []) ++ judgedText v newer older ++ (10 ∷ []) ≡ saidOf line (packetText (unhexed (hexOf line)) lent1 lent3 buffer)
 unfolding saidOf nameOf packetText
 packet-said line lent1 lent3 buffer e k ev en eo = rw (ev, en, eo, k, e)

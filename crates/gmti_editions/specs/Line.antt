@@ -4,6 +4,7 @@ use Prim.Native.Nat.{ℕ, _+_}
 use mathlib.Core.Bool.{cond}
 use mathlib.Core.List.{List, [], _∷_, _++_}
 use lib.ListN.{take, drop}
+use Rattle.format.specs.Edition.{asEdition}
 use Rattle.format.specs.declared.Answer.{Answer}
 use Rattle.format.specs.Reader.{read}
 use Rattle.printing.specs.Printing.{answerText}
@@ -24,7 +25,7 @@ judgedText Broken newer older = 98 ∷ 114 ∷ 111 ∷ 107 ∷ 101 ∷ 110 ∷ [
 
 -- the same of a packet and what is lent to both readings and the writer
 unfoldable pub packetText : List ℕ → List ℕ → List ℕ → List ℕ → List ℕ
-packetText l lent1 lent3 buffer = judgedText (verdict l lent1 lent3 buffer) (read 3 l lent3 .answer) (read 1 l lent1 .answer)
+packetText l lent1 lent3 buffer = judgedText (verdict l lent1 lent3 buffer) (read (asEdition 3) l lent3 .answer) (read (asEdition 1) l lent1 .answer)
 
 -- the name, up to the first colon (58), and the hex behind the colon and the space
 unfoldable pub nameOf : List ℕ → List ℕ

@@ -6,6 +6,7 @@ use mathlib.Core.List.{List}
 use lib.Dec.{eqb}
 use lib.ListN.{take}
 use Rattle.octets.specs.Layout.{over}
+use Rattle.format.specs.Edition.{asEdition}
 use Rattle.format.specs.declared.Answer.{Answer}
 use Rattle.format.specs.declared.Answer.the-variants.{Accepted, Refused}
 use Rattle.format.specs.Answer.{Outcome}
@@ -36,7 +37,7 @@ olderVerdict l s d t n (Accepted s1 d1 t1 n1) older newer buffer =
 -- "For every version 3 packet that the Edition 3 reading accepts": NotRead where it does not
 unfoldable pub verdict : List ℕ → List ℕ → List ℕ → List ℕ → Verdict
 verdict l lent1 lent3 buffer =
-    elim (read 3 l lent3 .answer) [
+    elim (read (asEdition 3) l lent3 .answer) [
       | Refused number segment field ↦ NotRead
-      | Accepted s d t n ↦ olderVerdict l s d t n (read 1 l lent1 .answer) (read 1 l lent1 .left) (read 3 l lent3 .left) buffer
+      | Accepted s d t n ↦ olderVerdict l s d t n (read (asEdition 1) l lent1 .answer) (read (asEdition 1) l lent1 .left) (read (asEdition 3) l lent3 .left) buffer
     ]

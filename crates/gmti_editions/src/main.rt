@@ -9,6 +9,7 @@ ghost use lib.Dec.{eqb};
 ghost use lib.ListN.{length};
 ghost use lib.Seq.{sets};
 ghost use Rattle.lines.specs.Lines.{before, NextWithin};
+ghost use Rattle.format.specs.Edition.{asEdition};
 ghost use Rattle.format.specs.Packet.{version};
 ghost use Rattle.format.specs.Answer.{outcome};
 ghost use Rattle.format.specs.Reader.{read};
@@ -17,6 +18,7 @@ ghost use Rattle.gmti_editions.specs.Verdict.{isReturned, isAlike, older
 ghost use Rattle.vectors.specs.declared.Fault.the-variants.{Nothing};
 ghost use Rattle.vectors.specs.Vectors.{hexFault, unhexed};
 ghost use Rattle.gmti_editions.specs.Line.{judgedText, packetText, hexOf, lineFault, saidOf, answerOf};
+use format::Answer;
 
 // What both readings and the writer make of a packet.
 enum Verdict {
@@ -33,30 +35,21 @@ enum Verdict {
 // The verdict on a packet, and the answers of both readings.
 struct Judged {
     verdict: Verdict,
-    newer: format::Answer,
-    older: format::Answer,
+    newer: Answer,
+    older: Answer,
 }
 
 // Whether the writer's answer and buffer are the packet l with these counts.
-fn is_returned(l: &[u8], s: usize, d: usize, t: usize, a: format::Answer, buffer: &[u8]) -> bool
+fn is_returned(l: &[u8], s: usize, d: usize, t: usize, a: Answer, buffer: &[u8]) -> bool
     ensures { λ r. ⌜ r ≡ isReturned (now (l .entry)) s d t (outcome a (now (buffer .entry))) ⌝ }
 {
     match a {
-        format::Answer::Refused {
-            number: _,
-            segment: _,
-            field: _,
-        } => false,
-        format::Answer::Accepted {
-            segments,
-            dwells,
-            targets,
-            length,
-        } => {
+        Answer::Refused(..) => false,
+        Answer::Accepted(segments, dwells, targets, length) => {
             if s != segments || d != dwells || t != targets {
                 return false;
             }
-            comparing::same(printing::front(buffer, length), l)
+            readback::same(printing::front(buffer, length), l)
         }
     }
 }
@@ -96,7 +89,7 @@ fn older_verdict(
     d: usize,
     t: usize,
     n: usize,
-    a: format::Answer,
+    a: Answer,
     older: &mut [u8],
     newer: &[u8],
     buffer: &mut [u8],
@@ -105,17 +98,8 @@ fn older_verdict(
     ensures { λ v. ⌜ v ≡ olderVerdict (now (l .entry)) s d t n a (now (older .entry)) (now (newer .entry)) (now (buffer .entry)) ⌝ }
 {
     match a {
-        format::Answer::Refused {
-            number,
-            segment: _,
-            field: _,
-        } => refusal_verdict(number),
-        format::Answer::Accepted {
-            segments,
-            dwells,
-            targets,
-            length,
-        } => {
+        Answer::Refused(number, _, _) => refusal_verdict(number),
+        Answer::Accepted(segments, dwells, targets, length) => {
             if s != segments || d != dwells || t != targets || n != length {
                 return Verdict::Broken;
             }
@@ -132,23 +116,14 @@ fn older_verdict(
 fn judge(l: &[u8], older: &mut [u8], newer: &mut [u8], buffer: &mut [u8]) -> Judged
     requires { ⌜ length (now older) ≡ length (now newer) ⌝ }
     ensures { λ j. ⌜ j .verdict ≡ verdictOf (now (l .entry)) (now (older .entry)) (now (newer .entry)) (now (buffer .entry)) ⌝ }
-    ensures { λ j. ⌜ (j .newer ≡ read 3 (now (l .entry)) (now (newer .entry)) .answer) × (j .older ≡ read 1 (now (l .entry)) (now (older .entry)) .answer) ⌝ }
+    ensures { λ j. ⌜ (j .newer ≡ read (asEdition 3) (now (l .entry)) (now (newer .entry)) .answer) × (j .older ≡ read (asEdition 1) (now (l .entry)) (now (older .entry)) .answer) ⌝ }
     ensures { λ j. ⌜ (version (now (l .entry)) ≡ 3 → length (now (l .entry)) ≤ length (now (buffer .entry)) → j .verdict ≡ Broken → ⊥) ⌝ }
 {
     let a3 = reader::read(3, l, newer);
     let a1 = reader::read(1, l, older);
     let verdict = match a3 {
-        format::Answer::Refused {
-            number: _,
-            segment: _,
-            field: _,
-        } => Verdict::NotRead,
-        format::Answer::Accepted {
-            segments,
-            dwells,
-            targets,
-            length,
-        } => older_verdict(
+        Answer::Refused(..) => Verdict::NotRead,
+        Answer::Accepted(segments, dwells, targets, length) => older_verdict(
             l,
             segments,
             dwells,
@@ -302,14 +277,21 @@ fn write_next(
     }
 }
 
+// The longest line that is read, with its end; two digits of it spell a byte. The answer has its name, and at most 95 bytes behind it.
+const INPUT: usize = 262144;
+
+const PACKET: usize = INPUT / 2;
+
+const OUT: usize = INPUT + 95;
+
 // As in `streams`, the turns are counted down so that the loop is seen to end.
 fn run(
-    input: &mut [u8; 262144],
-    packet: &mut [u8; 131072],
-    older: &mut [u8; 736953],
-    newer: &mut [u8; 736953],
-    buffer: &mut [u8; 65536],
-    out: &mut [u8; 262239],
+    input: &mut [u8; INPUT],
+    packet: &mut [u8; PACKET],
+    older: &mut [u8; format::LONGEST_SHEET],
+    newer: &mut [u8; format::LONGEST_SHEET],
+    buffer: &mut [u8; format::LONGEST_PACKET],
+    out: &mut [u8; OUT],
 ) {
     let mut held = lines::Held::nothing();
     let mut goes_on = true;
@@ -324,12 +306,12 @@ fn run(
 }
 
 fn main() {
-    let mut input = [0u8; 262144];
-    let mut packet = [0u8; 131072];
-    let mut older = [0u8; 736953];
-    let mut newer = [0u8; 736953];
-    let mut buffer = [0u8; 65536];
-    let mut out = [0u8; 262239];
+    let mut input = [0u8; INPUT];
+    let mut packet = [0u8; PACKET];
+    let mut older = [0u8; format::LONGEST_SHEET];
+    let mut newer = [0u8; format::LONGEST_SHEET];
+    let mut buffer = [0u8; format::LONGEST_PACKET];
+    let mut out = [0u8; OUT];
     run(
         &mut input,
         &mut packet,

@@ -3,20 +3,21 @@ ghost use mathlib.Core.Path.{_≡_};
 ghost use Prim.Native.Nat.{_+_, _≤_};
 ghost use lib.ListN.{length};
 ghost use lib.Seq.{sets};
+ghost use Rattle.format.specs.Edition.{asEdition};
 ghost use Rattle.format.specs.Reader.{read};
 ghost use Rattle.gmti_read.specs.Printed.{printedOf};
 
 // All that is printed of these bytes, at the front of out; answers its length.
 fn answer(packet: &[u8], sheet: &mut [u8], out: &mut [u8]) -> usize
     requires { ⌜ 96 + length (now sheet) ≤ length (now out) ⌝ }
-    ensures { λ r. ⌜ (r ≡ length (printedOf (read 3 (now (packet .entry)) (now (sheet .entry))))) × (r ≤ length (now (out .exit))) ⌝ }
-    ensures { λ _. ⌜ now (out .exit) ≡ sets (now (out .entry)) 0 (printedOf (read 3 (now (packet .entry)) (now (sheet .entry)))) ⌝ }
+    ensures { λ r. ⌜ (r ≡ length (printedOf (read (asEdition 3) (now (packet .entry)) (now (sheet .entry))))) × (r ≤ length (now (out .exit))) ⌝ }
+    ensures { λ _. ⌜ now (out .exit) ≡ sets (now (out .entry)) 0 (printedOf (read (asEdition 3) (now (packet .entry)) (now (sheet .entry)))) ⌝ }
 {
     let a = reader::read(3, packet, sheet);
     printing::print(a, sheet, out)
 }
 
-// A packet has at most 65,536 bytes: one byte more tells that the input is longer, and row 2 refuses it.
+// One byte more than the longest packet has tells that the input is longer, and row 2 refuses it.
 fn run(packet: &mut [u8], sheet: &mut [u8], out: &mut [u8])
     requires { ⌜ 96 + length (now sheet) ≤ length (now out) ⌝ }
 {
@@ -31,13 +32,20 @@ fn run(packet: &mut [u8], sheet: &mut [u8], out: &mut [u8])
     );
 }
 
-fn run_in(packet: &mut [u8; 65537], sheet: &mut [u8; 65536], out: &mut [u8; 65632]) {
+// The sheet buffer that document 01 gives the program.
+const SHEET: usize = 65536;
+
+fn run_in(
+    packet: &mut [u8; format::LONGEST_PACKET + 1],
+    sheet: &mut [u8; SHEET],
+    out: &mut [u8; printing::LINE + SHEET],
+) {
     run(packet, sheet, out);
 }
 
 fn main() {
-    let mut packet = [0u8; 65537];
-    let mut sheet = [0u8; 65536];
-    let mut out = [0u8; 65632];
+    let mut packet = [0u8; format::LONGEST_PACKET + 1];
+    let mut sheet = [0u8; SHEET];
+    let mut out = [0u8; printing::LINE + SHEET];
     run_in(&mut packet, &mut sheet, &mut out);
 }

@@ -6,6 +6,7 @@ ghost use mathlib.Core.List.{[], _∷_};
 ghost use Prim.Native.Nat.{_≤_};
 ghost use lib.ListN.{length};
 ghost use Rattle.format.specs.Writer.{isSame};
+use format::Answer;
 
 // The edition that a word names, and 0, which is none, for any other word.
 fn edition_of(word: &[u8]) -> u32
@@ -36,7 +37,7 @@ fn write(s: &[u8]) {
     streams::write_all(b"gmti_sheet: standard output is cut", s);
 }
 
-// A packet has at most 65,536 bytes: one byte more tells that the input is longer, and row 2 refuses it.
+// One byte more than the longest packet has tells that the input is longer, and row 2 refuses it.
 fn run(packet: &mut [u8], sheet: &mut [u8], line: &mut [u8])
     requires { ⌜ 96 ≤ length (now line) ⌝ }
 {
@@ -47,32 +48,27 @@ fn run(packet: &mut [u8], sheet: &mut [u8], line: &mut [u8])
     let edition = edition_asked();
     let a = reader::read(edition, printing::front(packet, n), sheet);
     match a {
-        format::Answer::Accepted {
-            segments: _,
-            dwells: _,
-            targets: _,
-            length,
-        } => {
+        Answer::Accepted(_, _, _, length) => {
             write(printing::front(sheet, length));
         }
-        format::Answer::Refused {
-            number: _,
-            segment: _,
-            field: _,
-        } => {
+        Answer::Refused(..) => {
             let k = printing::answer_line(line, a);
             write(printing::front(line, k));
         }
     }
 }
 
-fn run_in(packet: &mut [u8; 65537], sheet: &mut [u8; 736953], line: &mut [u8; 96]) {
+fn run_in(
+    packet: &mut [u8; format::LONGEST_PACKET + 1],
+    sheet: &mut [u8; format::LONGEST_SHEET],
+    line: &mut [u8; printing::LINE],
+) {
     run(packet, sheet, line);
 }
 
 fn main() {
-    let mut packet = [0u8; 65537];
-    let mut sheet = [0u8; 736953];
-    let mut line = [0u8; 96];
+    let mut packet = [0u8; format::LONGEST_PACKET + 1];
+    let mut sheet = [0u8; format::LONGEST_SHEET];
+    let mut line = [0u8; printing::LINE];
     run_in(&mut packet, &mut sheet, &mut line);
 }

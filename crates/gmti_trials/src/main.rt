@@ -6,9 +6,11 @@ ghost use mathlib.Core.Bool.{cond};
 ghost use Prim.Native.Nat.{_+_, _/_, _≤_};
 ghost use lib.ListN.{length};
 ghost use Rattle.lines.specs.Lines.{NextWithin};
+ghost use Rattle.format.specs.Edition.{asEdition};
 ghost use Rattle.format.specs.Answer.{outcome};
 ghost use Rattle.format.specs.Reader.{read};
 ghost use Rattle.format.specs.Writer.{write};
+use format::Answer;
 
 // What is wrong with a vector; whether it is the writer's, its numbers, and where its packet or sheet begins.
 struct Vector {
@@ -90,8 +92,8 @@ fn fill(o: &mut [u8]) {
 }
 
 // The writer's answer to a sheet, or that of the edition's reading to a packet.
-fn called(writes: bool, edition: u32, given: &[u8], lent: &mut [u8]) -> format::Answer
-    ensures { λ a. ⌜ outcome a (now (lent .exit)) ≡ cond writes (write (now (given .entry)) (now (lent .entry))) (read edition (now (given .entry)) (now (lent .entry))) ⌝ }
+fn called(writes: bool, edition: u32, given: &[u8], lent: &mut [u8]) -> Answer
+    ensures { λ a. ⌜ outcome a (now (lent .exit)) ≡ cond writes (write (now (given .entry)) (now (lent .entry))) (read (asEdition edition) (now (given .entry)) (now (lent .entry))) ⌝ }
 {
     if writes {
         writer::write(given, lent)
@@ -162,12 +164,22 @@ fn write_next(
     }
 }
 
+// The longest line that is read, with its end; two digits of it spell a byte. The answer has its name, the lent bytes in hex, and at most 90
+// bytes between and behind them.
+const INPUT: usize = 262144;
+
+const PACKET: usize = INPUT / 2;
+
+const LENT: usize = 8192;
+
+const OUT: usize = INPUT + 2 * LENT + 90;
+
 // As in `streams`, the turns are counted down so that the loop is seen to end.
 fn run(
-    input: &mut [u8; 262144],
-    packet: &mut [u8; 131072],
-    sheet: &mut [u8; 8192],
-    out: &mut [u8; 278618],
+    input: &mut [u8; INPUT],
+    packet: &mut [u8; PACKET],
+    sheet: &mut [u8; LENT],
+    out: &mut [u8; OUT],
 ) {
     let mut held = lines::Held::nothing();
     let mut goes_on = true;
@@ -182,9 +194,9 @@ fn run(
 }
 
 fn main() {
-    let mut input = [0u8; 262144];
-    let mut packet = [0u8; 131072];
-    let mut sheet = [0u8; 8192];
-    let mut out = [0u8; 278618];
+    let mut input = [0u8; INPUT];
+    let mut packet = [0u8; PACKET];
+    let mut sheet = [0u8; LENT];
+    let mut out = [0u8; OUT];
     run(&mut input, &mut packet, &mut sheet, &mut out);
 }

@@ -1,6 +1,7 @@
 // Reads a sheet from standard input, and writes the packet's bytes to standard output, or the line of the refusal.
 ghost use Prim.Native.Nat.{_≤_};
 ghost use lib.ListN.{length};
+use format::Answer;
 
 fn write(s: &[u8]) {
     streams::write_all(b"gmti_write: standard output is cut", s);
@@ -12,19 +13,10 @@ fn answer(sheet: &[u8], packet: &mut [u8], line: &mut [u8])
 {
     let a = writer::write(sheet, packet);
     match a {
-        format::Answer::Accepted {
-            segments: _,
-            dwells: _,
-            targets: _,
-            length,
-        } => {
+        Answer::Accepted(_, _, _, length) => {
             write(printing::front(packet, length));
         }
-        format::Answer::Refused {
-            number: _,
-            segment: _,
-            field: _,
-        } => {
+        Answer::Refused(..) => {
             let k = printing::answer_line(line, a);
             write(printing::front(line, k));
         }
@@ -47,13 +39,17 @@ fn run(sheet: &mut [u8], packet: &mut [u8], line: &mut [u8])
     answer(printing::front(sheet, n), packet, line);
 }
 
-fn run_in(sheet: &mut [u8; 736954], packet: &mut [u8; 65536], line: &mut [u8; 96]) {
+fn run_in(
+    sheet: &mut [u8; format::LONGEST_SHEET + 1],
+    packet: &mut [u8; format::LONGEST_PACKET],
+    line: &mut [u8; printing::LINE],
+) {
     run(sheet, packet, line);
 }
 
 fn main() {
-    let mut sheet = [0u8; 736954];
-    let mut packet = [0u8; 65536];
-    let mut line = [0u8; 96];
+    let mut sheet = [0u8; format::LONGEST_SHEET + 1];
+    let mut packet = [0u8; format::LONGEST_PACKET];
+    let mut line = [0u8; printing::LINE];
     run_in(&mut sheet, &mut packet, &mut line);
 }

@@ -69,18 +69,29 @@ unfolding announced
 bit mask k j n h = ap (λ (m : ℕ). eqb (mask / 2 ^ m % 2) 1) h ∙ ap (λ (m : ℕ). eqb (m % 2) 1) (sym (shr-shr mask k j))
 
 -- four bits of the mask, from the field n on, look up what these fields take
-pub four-fields : (mask n a b c d : ℕ) → n ≤ 62 → getD (sums a b c d) (mask / 2 ^ (62 - n) % 16) 0 ≡ announcedLength mask n (a ∷ b ∷ c ∷ d ∷ [])
+four : (mask n a b c d : ℕ) → n ≤ 62 → getD (sums a b c d) (mask / 2 ^ (62 - n) % 16) 0 ≡ announcedLength mask n (a ∷ b ∷ c ∷ d ∷ [])
 unfolding announcedLength
-four-fields mask n a b c d h =
+four mask n a b c d h =
     let k = 62 - n in
     remainder a b c d (mask / 2 ^ k)
     ∙ rw (bit mask k 3 n (omega arith), bit mask k 2 (suc n) (omega arith), bit mask k 1 (suc (suc n)) (omega arith), bit mask k 0 (suc (suc (suc n))) (omega arith), div-one (mask / 2 ^ k))
 
 -- and with two widths of 0, which add nothing, what two fields take
-pub two-fields : (mask n a b : ℕ) → n ≤ 62 → getD (sums a b 0 0) (mask / 2 ^ (62 - n) % 16) 0 ≡ announcedLength mask n (a ∷ b ∷ [])
+two : (mask n a b : ℕ) → n ≤ 62 → getD (sums a b 0 0) (mask / 2 ^ (62 - n) % 16) 0 ≡ announcedLength mask n (a ∷ b ∷ [])
 unfolding announcedLength
-two-fields mask n a b h = omega (arith, four-fields mask n a b 0 0 h, none (announced mask (suc (suc n))), none (announced mask (suc (suc (suc n)))))
+two mask n a b h = omega (arith, four mask n a b 0 0 h, none (announced mask (suc (suc n))), none (announced mask (suc (suc (suc n)))))
   where
     none : (t : Bool) → _≡_ {A = ℕ} (cond t 0 0) 0
     none true = refl
     none false = refl
+
+-- the same of the widths of a range of the table, with its first field
+module _ (mask n : ℕ) (ws : List ℕ) (h : n ≤ 62) where
+  abbrev at : ℕ → ℕ
+  at i = getD ws i 0
+
+  pub four-fields : getD (sums (at 0) (at 1) (at 2) (at 3)) (mask / 2 ^ (62 - n) % 16) 0 ≡ announcedLength mask n (at 0 ∷ at 1 ∷ at 2 ∷ at 3 ∷ [])
+  four-fields = four mask n (at 0) (at 1) (at 2) (at 3) h
+
+  pub two-fields : getD (sums (at 0) (at 1) 0 0) (mask / 2 ^ (62 - n) % 16) 0 ≡ announcedLength mask n (at 0 ∷ at 1 ∷ [])
+  two-fields = two mask n (at 0) (at 1) h

@@ -6,7 +6,8 @@ use mathlib.Core.List.{List, [], _∷_}
 use Prim.Native.Nat.{ℕ}
 use lib.Dec.{eqb}
 use Rattle.mask.specs.Fields.{announced, d32}
-use Rattle.mask.specs.Mask.{between, isRequired, isReserved, d28to30, isGap, isGapIn, isDoubled, isFault}
+use Rattle.octets.specs.Octets.{between}
+use Rattle.mask.specs.Mask.{isRequired, isReserved, d28to30, isGap, isGapIn, isDoubled, isFault}
 
 -- r: required and unset; s, p: reserved, in any version and in version 1 (v); a: set; e to k: the groups of any version,
 -- and z that of version 1, which x has in version 1 alone; d: doubled

@@ -7,7 +7,8 @@ use Prim.Native.Nat.{ℕ, _≤_, _<_, _^_}
 use lib.Bits.{bitAnd}
 use lib.Dec.{T, eqb}
 use Rattle.mask.specs.Fields.{announced, d32}
-use Rattle.mask.specs.Mask.{between, isIn, isRequired, isGap, d28to30}
+use Rattle.octets.specs.Octets.{between}
+use Rattle.mask.specs.Mask.{isIn, isRequired, isGap, d28to30}
 use Rattle.mask.proofs.Sets.{all-in, stands-for, gap-is, isDelta}
 
 pub required-word : T (stands-for 0xFF00_03C0_0000_0000 isRequired)
@@ -36,32 +37,32 @@ module _ (m : ℕ) (h : m < 2 ^ 64) (n : ℕ) (lo : 2 ≤ n) (hi : n < 66) where
 
   pub d12-says : Says 0x0038_0000_0000_0000 (12 ∷ 13 ∷ 14 ∷ [])
   unfolding announced isIn
-  d12-says = says 0x0038_0000_0000_0000 (12 ∷ 13 ∷ 14 ∷ []) tt tt
+  d12-says = says _ _ tt tt
 
   pub d15-says : Says 0x0007_0000_0000_0000 (15 ∷ 16 ∷ 17 ∷ [])
   unfolding announced isIn
-  d15-says = says 0x0007_0000_0000_0000 (15 ∷ 16 ∷ 17 ∷ []) tt tt
+  d15-says = says _ _ tt tt
 
   pub d18-says : Says 0x0000_E000_0000_0000 (18 ∷ 19 ∷ 20 ∷ [])
   unfolding announced isIn
-  d18-says = says 0x0000_E000_0000_0000 (18 ∷ 19 ∷ 20 ∷ []) tt tt
+  d18-says = says _ _ tt tt
 
   pub d21-says : Says 0x0000_1C00_0000_0000 (21 ∷ 22 ∷ 23 ∷ [])
   unfolding announced isIn
-  d21-says = says 0x0000_1C00_0000_0000 (21 ∷ 22 ∷ 23 ∷ []) tt tt
+  d21-says = says _ _ tt tt
 
-  pub deltas-says : Says 0x00C0_0000_6000_0000 (10 ∷ 11 ∷ d32 4 ∷ d32 5 ∷ [])
+  pub d10-says : Says 0x00C0_0000_6000_0000 (10 ∷ 11 ∷ d32 4 ∷ d32 5 ∷ [])
   unfolding announced isIn
-  deltas-says = says 0x00C0_0000_6000_0000 (10 ∷ 11 ∷ d32 4 ∷ d32 5 ∷ []) tt tt
+  d10-says = says _ _ tt tt
 
   pub places-says : Says 0x0000_0001_8000_0000 (d32 2 ∷ d32 3 ∷ [])
   unfolding announced isIn
-  places-says = says 0x0000_0001_8000_0000 (d32 2 ∷ d32 3 ∷ []) tt tt
+  places-says = says _ _ tt tt
 
   pub classes-says : Says 0x0000_0000_0006_0000 (d32 16 ∷ d32 17 ∷ [])
   unfolding announced isIn
-  classes-says = says 0x0000_0000_0006_0000 (d32 16 ∷ d32 17 ∷ []) tt tt
+  classes-says = says _ _ tt tt
 
   pub d28-says : Says 0x0000_0038_0000_0000 d28to30
   unfolding announced isIn
-  d28-says = says 0x0000_0038_0000_0000 d28to30 tt tt
+  d28-says = says _ _ tt tt

@@ -2,18 +2,20 @@
 -- The rules go by the packet's version, 1 or 3, and not by the edition that it is read as.
 -- Assumes nothing.
 use Prim.Native.Nat.{ℕ, zero, suc}
-use mathlib.Core.Bool.{Bool, false, not, _&&_, _||_, cond}
+use mathlib.Core.Path.{_≡_}
+use mathlib.Core.Bool.{Bool, true, false, not, _&&_, _||_, cond}
 use mathlib.Core.List.{List, [], _∷_, _++_}
-use lib.Dec.{leb, eqb}
+use lib.Dec.{eqb}
+use Rattle.octets.specs.Octets.{between}
 use Rattle.mask.specs.Fields.{announced, d32}
-
--- n is one of a to b
-abbrev pub between : ℕ → ℕ → ℕ → Bool
-between a b n = leb a n && leb n b
 
 -- "one of D2 to D9, D24 to D27"
 unfoldable pub isRequired : ℕ → Bool
 isRequired n = between 2 9 n || between 24 27 n
+
+-- every required field is announced
+abbrev pub Required : ℕ → Type 0
+Required mask = (n : ℕ) → isRequired n ≡ true → announced mask n ≡ true
 
 -- "reserved (50 to 65; also 49, D32.18, in version 1)"
 unfoldable pub isReserved : ℕ → ℕ → Bool

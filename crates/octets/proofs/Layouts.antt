@@ -41,11 +41,6 @@ take-pad w b h =
     ∙ ap (take (length b)) (pad-append w (w - length b) b [] (omega arith))
     ∙ take-at b (pad (w - length b) []) (length b) refl
 
--- bytes laid over lent memory leave its length
-pub length-over : (e o : List ℕ) → length e ≤ length o → length (over e o) ≡ length o
-unfolding over
-length-over e o h = simp (length-append, length-drop) (omega arith)
-
 module _ (first : ℕ) (ws : List ℕ) (n : ℕ) where
   -- a field that lies within b has its width
   pub length-field : (b : List ℕ) → offset first ws n + width first ws n ≤ length b → length (field first ws n b) ≡ width first ws n

@@ -1,9 +1,9 @@
 -- Numbers in bytes: "Bytes are 8 bits, numbers are stored highest byte first" (document 01, first paragraph), at every width.
 -- Assumes nothing.
 use Prim.Native.Nat.{ℕ, zero, suc, _+_, _-_, _*_, _/_, _%_, _^_, _<_}
-use mathlib.Core.Bool.{cond}
+use mathlib.Core.Bool.{Bool, _&&_, cond}
 use mathlib.Core.List.{List, [], _∷_, _++_}
-use lib.Dec.{ltb}
+use lib.Dec.{ltb, leb}
 use lib.IntN.{ℤ, pos, negsuc}
 use lib.ListN.{getD}
 
@@ -33,3 +33,7 @@ signedBytes k (negsuc n) = bytes k (256 ^ k - suc n)
 -- every element of a list is a byte: what is known of each packet and sheet handed in
 abbrev pub Bytes : List ℕ → Type 0
 Bytes s = (i : ℕ) → getD s i 0 < 256
+
+-- n is one of a to b
+abbrev pub between : ℕ → ℕ → ℕ → Bool
+between a b n = leb a n && leb n b

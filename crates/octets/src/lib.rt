@@ -3,7 +3,7 @@ ghost use mathlib.Core.Path.{_≡_};
 ghost use Prim.Native.Nat.{_+_, _≤_, _<_};
 ghost use lib.ListN.{length, drop};
 ghost use lib.Seq.{sets};
-ghost use Rattle.octets.specs.Octets.{be, bytes, twos, signed, signedBytes};
+ghost use Rattle.octets.specs.Octets.{be, bytes, twos, signed, signedBytes, between};
 
 // A byte as a wider number, with its bound: a caller's products and sums then need no proof of their own.
 fn wide(x: u8) -> u16
@@ -109,4 +109,11 @@ pub fn put_i32(s: &mut [u8], at: usize, v: i32)
     ensures { λ _. ⌜ now (s .exit) ≡ sets (now (s .entry)) at (signedBytes 4 v) ⌝ }
 {
     put_u32(s, at, bits32(v));
+}
+
+// Whether x is one of first to last.
+pub fn is_between(first: u8, last: u8, x: u8) -> bool
+    ensures { λ r. ⌜ r ≡ between first last x ⌝ }
+{
+    first <= x && x <= last
 }

@@ -2,26 +2,24 @@
 -- Assumes nothing.
 use mathlib.Core.Path.{_≡_, refl, sym, ap, ap₂, _∙_}
 use mathlib.Core.List.{List, [], _∷_, _++_, append-nil, append-assoc}
-use Prim.Native.Nat.{ℕ, _+_, _/_, _%_, _≤_, _<_}
+use Prim.Native.Nat.{ℕ, _+_, _/_, _%_, _^_, _≤_, _<_}
 use native.Mathlib.Omega.{arith}
 use native.Mathlib.Numerals.{add-one}
 use lib.IntN.{ℤ}
 use lib.ListN.{length, drop, set, length-append}
-use lib.Seq.{sets}
+use lib.Seq.{sets, length-sets}
 use Rattle.octets.proofs.Laws.{sets-sets}
 use Rattle.octets.specs.Octets.{be, signed}
+use Rattle.octets.specs.Layout.{total}
+use Rattle.mask.specs.Fields.{targetWidths}
 use Rattle.format.specs.declared.Answer.{Answer}
 use Rattle.format.specs.declared.Answer.the-variants.{Accepted, Refused}
-use Rattle.printing.specs.Printing.{decimal, signedDecimal, spaced, answerText, answerLine, targetLine}
-use Rattle.printing.proofs.Digits.{decimal-one, decimal-more}
+use Rattle.printing.specs.Printing.{Put, decimal, signedDecimal, spaced, answerText, targetLine}
+use Rattle.printing.proofs.Digits.{decimal-one, decimal-more, decimal-fits}
 
 -- l with vs stored from `at` on is a, and p is the place behind them
 abbrev pub Laid : List ℕ → ℕ → List ℕ → ℕ → List ℕ → Type 0
 Laid l at vs p a = (p ≡ at + length vs) × (a ≡ sets l at vs)
-
--- no bytes
-pub laid-none : (l : List ℕ) (at : ℕ) → Laid l at [] at l
-laid-none l at = (omega arith, refl)
 
 -- two runs, the second where the first ends
 pub laid-join : (us vs l : List ℕ) (at : ℕ) {p q : ℕ} {a b : List ℕ} → Laid l at us p a → Laid a p vs q b → Laid l at (us ++ vs) q b
@@ -49,52 +47,80 @@ length-one n h = ap length (decimal-one n h)
 pub length-more : (n : ℕ) → 10 ≤ n → length (decimal n) ≡ length (decimal (n / 10)) + 1
 length-more n h = ap length (decimal-more n h) ∙ length-append (decimal (n / 10)) ((48 + n % 10) ∷ [])
 
+-- a word of two letters
+pub laid-word : (l : List ℕ) (at x y : ℕ) → Laid l at (x ∷ y ∷ []) (at + 2) (set (set l at x) (at + 1) y)
+laid-word l at x y = (refl, rw (add-one at))
+
+-- ---- the same, within so many bytes
+
+-- no bytes
+pub put-none : (l : List ℕ) (at : ℕ) → Put 0 l at [] at l
+put-none l at = record { next = omega arith; room = omega arith; stored = refl }
+
+module _ {j : ℕ} {us l a : List ℕ} {at p : ℕ} (h : Put j l at us p a) where
+  -- two runs, the second where the first ends
+  pub put-join : {k q : ℕ} {vs b : List ℕ} → Put k a p vs q b → Put (j + k) l at (us ++ vs) q b
+  put-join {vs = vs} k =
+      let both = laid-join us vs l at (h .next, h .stored) (k .next, k .stored) in
+      record { next = both .0; room = omega arith; stored = both .1 }
+
+  -- one byte more
+  pub put-byte : (v : ℕ) → Put (j + 1) l at (us ++ (v ∷ [])) (p + 1) (set a p v)
+  put-byte v = put-join (record { next = refl; room = omega arith; stored = refl })
+
+  -- more room than it takes
+  pub put-within : {k : ℕ} → j ≤ k → Put k l at us p a
+  put-within r = record { next = h .next; room = omega arith; stored = h .stored }
+
+  pub put-same : length a ≡ length l
+  put-same = ap length (h .stored) ∙ length-sets l at us
+
+-- a byte, and the digits of a number behind it
+pub put-led : (v : ℕ) (l : List ℕ) (at n : ℕ) {q : ℕ} {b : List ℕ} → length (decimal n) ≤ 20 → Laid (set l at v) (at + 1) (decimal n) q b → Put 21 l at (v ∷ decimal n) q b
+put-led v l at n f h =
+    let both = laid-join (v ∷ []) (decimal n) l at (refl, refl) h in
+    record { next = both .0; room = omega (arith, h .0); stored = both .1 }
+
+-- a space, and the number
+pub put-space : (l : List ℕ) (at n : ℕ) {q : ℕ} {b : List ℕ} → n < 2 ^ 64 → Laid (set l at 32) (at + 1) (decimal n) q b → Put 21 l at (spaced (n ∷ [])) q b
+unfolding spaced
+put-space l at n f h = rw (append-nil (decimal n)) (put-led 32 l at n (decimal-fits n f) h)
+
 -- numbers in a row, each after a space
 spaced-append : (ns ms : List ℕ) → spaced (ns ++ ms) ≡ spaced ns ++ spaced ms
 unfolding spaced
 spaced-append [] ms = refl
 spaced-append (n ∷ ns) ms = ap (λ (l : List ℕ). 32 ∷ l) (ap (λ (l : List ℕ). decimal n ++ l) (spaced-append ns ms) ∙ sym (append-assoc (decimal n) (spaced ns) (spaced ms)))
 
-pub laid-spaced : (ns ms l : List ℕ) (at : ℕ) {p q : ℕ} {a b : List ℕ} → Laid l at (spaced ns) p a → Laid a p (spaced ms) q b → Laid l at (spaced (ns ++ ms)) q b
-laid-spaced ns ms l at h k = rw (spaced-append ns ms) (laid-join (spaced ns) (spaced ms) l at h k)
+pub spaced-join : (ns ms : List ℕ) {j k at p q : ℕ} {l a b : List ℕ} → Put j l at (spaced ns) p a → Put k a p (spaced ms) q b → Put (j + k) l at (spaced (ns ++ ms)) q b
+spaced-join ns ms h k = rw (spaced-append ns ms) (put-join h k)
 
--- a space, and the number
-pub put-space : (l : List ℕ) (at n : ℕ) {q : ℕ} {b : List ℕ} → Laid (set l at 32) (at + 1) (decimal n) q b → Laid l at (spaced (n ∷ [])) q b
-unfolding spaced
-put-space l at n h = rw (append-nil (decimal n)) (laid-join (32 ∷ []) (decimal n) l at (refl, refl) h)
+-- an answer: a word of two letters and its numbers
+put-word : (l : List ℕ) (at x y : ℕ) → Put 2 l at (x ∷ y ∷ []) (at + 2) (set (set l at x) (at + 1) y)
+put-word l at x y = record { next = refl; room = omega arith; stored = laid-word l at x y .1 }
 
--- a word of two letters
-pub laid-word : (l : List ℕ) (at x y : ℕ) → Laid l at (x ∷ y ∷ []) (at + 2) (set (set l at x) (at + 1) y)
-laid-word l at x y = (refl, rw (add-one at))
+module _ (l : List ℕ) (at : ℕ) where
+  pub put-accepted : {x : Answer} {segments dwells targets n p q : ℕ} {a b : List ℕ}
+      → x ≡ Accepted segments dwells targets n
+      → Put 63 (set (set l at 111) (at + 1) 107) (at + 2) (spaced (segments ∷ dwells ∷ targets ∷ [])) p a
+      → Put 21 a p (spaced (n ∷ [])) q b
+      → Put 86 l at (answerText x) q b
+  unfolding answerText
+  put-accepted e h k = rw e (put-join (put-word l at 111 107) (spaced-join _ _ h k))
 
--- an answer: its word and its numbers
-pub accepted-laid : (l : List ℕ) (at segments dwells targets n : ℕ) {p q : ℕ} {a b : List ℕ}
-    → Laid (set (set l at 111) (at + 1) 107) (at + 2) (spaced (segments ∷ dwells ∷ targets ∷ [])) p a
-    → Laid a p (spaced (n ∷ [])) q b
-    → Laid l at (answerText (Accepted segments dwells targets n)) q b
-unfolding answerText
-accepted-laid l at segments dwells targets n h k =
-    laid-join (111 ∷ 107 ∷ []) (spaced (segments ∷ dwells ∷ targets ∷ n ∷ [])) l at (laid-word l at 111 107)
-    (laid-spaced (segments ∷ dwells ∷ targets ∷ []) (n ∷ []) (set (set l at 111) (at + 1) 107) (at + 2) h k)
+  pub put-refused : {x : Answer} {number segment field q : ℕ} {b : List ℕ}
+      → x ≡ Refused number segment field
+      → Put 63 (set (set l at 110) (at + 1) 111) (at + 2) (spaced (number ∷ segment ∷ field ∷ [])) q b
+      → Put 86 l at (answerText x) q b
+  unfolding answerText
+  put-refused e h = rw e (put-within (put-join (put-word l at 110 111) h) (omega arith))
 
-pub refused-laid : (l : List ℕ) (at number segment field : ℕ) {q : ℕ} {b : List ℕ}
-    → Laid (set (set l at 110) (at + 1) 111) (at + 2) (spaced (number ∷ segment ∷ field ∷ [])) q b
-    → Laid l at (answerText (Refused number segment field)) q b
-unfolding answerText
-refused-laid l at number segment field h = laid-join (110 ∷ 111 ∷ []) (spaced (number ∷ segment ∷ field ∷ [])) l at (laid-word l at 110 111) h
-
--- and the end of its line
-pub answer-laid : (l : List ℕ) (x : Answer) {p : ℕ} {a : List ℕ} → Laid l 0 (answerText x) p a → Laid l 0 (answerLine x) (p + 1) (set a p 10)
-unfolding answerLine
-answer-laid l x h = laid-byte (answerText x) l 0 10 h
-
--- the line of a target, of the numbers read
-pub target-laid : (b l : List ℕ) (at : ℕ) {z : ℤ} {n p q : ℕ} {a c : List ℕ}
-    → z ≡ signed 4 (drop 36 b)
-    → n ≡ be 4 (drop 40 b)
-    → Laid l at (signedDecimal z) p a
-    → Laid a p (spaced (n ∷ [])) q c
-    → Laid l at (targetLine b) (q + 1) (set c q 10)
-unfolding targetLine
-target-laid b l at {z} {n} ez en h k =
-    rw (← ez, ← en) (laid-byte (signedDecimal z ++ spaced (n ∷ [])) l at 10 (laid-join (signedDecimal z) (spaced (n ∷ [])) l at h k))
+  -- the line of a target, of the numbers read
+  pub put-target : (b : List ℕ) {z : ℤ} {n p q : ℕ} {a c : List ℕ}
+      → z ≡ signed 4 (drop (total targetWidths) b)
+      → n ≡ be 4 (drop (total targetWidths + 4) b)
+      → Put 21 l at (signedDecimal z) p a
+      → Put 21 a p (spaced (n ∷ [])) q c
+      → Put 43 l at (targetLine b) (q + 1) (set c q 10)
+  unfolding targetLine
+  put-target b ez en h k = rw (← ez, ← en) (put-byte (put-join h k) 10)

@@ -1,17 +1,27 @@
 -- What the program prints: "It prints `ok` segments dwells targets sheet length, then each target's latitude and longitude on a line, or
 -- `no` number segment field" (document 01, 'Trials'), in ASCII.
 -- Assumes nothing.
-use Prim.Native.Nat.{ℕ, zero, suc, _+_, _/_, _%_}
+use Prim.Native.Nat.{ℕ, zero, suc, _+_, _/_, _%_, _≤_}
+use mathlib.Core.Path.{_≡_}
 use mathlib.Core.Bool.{cond}
 use mathlib.Core.List.{List, [], _∷_, _++_}
 use lib.Dec.{eqb}
 use lib.IntN.{ℤ, pos, negsuc}
-use lib.ListN.{take, drop}
+use lib.ListN.{length, take, drop}
+use lib.Seq.{sets}
 use Rattle.octets.specs.Octets.{be, signed}
+use Rattle.octets.specs.Layout.{total}
+use Rattle.mask.specs.Fields.{targetWidths}
 use Rattle.format.specs.declared.Answer.{Answer}
 use Rattle.format.specs.declared.Answer.the-variants.{Accepted, Refused}
 use Rattle.format.specs.Sheet.{Record}
 use Rattle.format.specs.Writer.{listed}
+
+-- l with the bytes vs stored from a place on is a; p is the place behind them, within so many bytes of the first
+pub record Put (most : ℕ) (l : List ℕ) (at : ℕ) (vs : List ℕ) (p : ℕ) (a : List ℕ) : Type 0 where
+  pub next : p ≡ at + length vs
+  pub room : p ≤ at + most
+  pub stored : a ≡ sets l at vs
 
 -- the digit of a number below 10: '0' is 48
 abbrev pub digit : ℕ → ℕ
@@ -46,9 +56,12 @@ answerText (Refused number segment field) = 110 ∷ 111 ∷ spaced (number ∷ s
 unfoldable pub answerLine : Answer → List ℕ
 answerLine a = answerText a ++ (10 ∷ [])
 
--- "each target's latitude and longitude on a line", of the body of a kind 4: they are its last 4 and 4 bytes, the first signed
+-- "each target's latitude and longitude on a line", of the body of a kind 4: "D32.1 to D32.18 (absent ones zero), latitude 4 signed,
+-- longitude 4"
 unfoldable pub targetLine : List ℕ → List ℕ
-targetLine b = signedDecimal (signed 4 (drop 36 b)) ++ spaced (be 4 (drop 40 b) ∷ []) ++ (10 ∷ [])
+targetLine b =
+    let at = total targetWidths in
+    signedDecimal (signed 4 (drop at b)) ++ spaced (be 4 (drop (at + 4) b) ∷ []) ++ (10 ∷ [])
 
 -- a record's line: none but for a target
 unfoldable pub recordLine : Record → List ℕ

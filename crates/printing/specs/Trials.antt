@@ -4,6 +4,7 @@ use Prim.Native.Nat.{ℕ}
 use mathlib.Core.Path.{_≡_}
 use mathlib.Core.List.{List, [], _∷_}
 use lib.IntN.{negsuc}
+use Rattle.format.specs.Edition.{asEdition}
 use Rattle.format.specs.Reader.{sheet}
 use Rattle.format.specs.Trials.{read3}
 use Rattle.format.specs.Samples.{version3, printed as sample}
@@ -22,7 +23,7 @@ numbersPrinted =
 
 -- what the program prints of a packet
 abbrev pub program : List ℕ → List ℕ
-program l = printed (read3 l) (sheet 3 l)
+program l = printed (read3 l) (sheet (asEdition 3) l)
 
 -- "A bare 32-byte header with P2 32 prints `ok 0 0 0 33`", and the 92-byte packet "prints whole" `ok 1 1 1 166` and `-351563 359648438`
 unfoldable pub resultsPrinted : List (Type 0)

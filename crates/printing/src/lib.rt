@@ -6,7 +6,13 @@ ghost use lib.ListN.{length, take};
 ghost use lib.Seq.{sets};
 ghost use Rattle.format.specs.Sheet.{bodyLength};
 ghost use Rattle.format.specs.Writer.{listed};
-ghost use Rattle.printing.specs.Printing.{decimal, signedDecimal, spaced, answerText, answerLine, targetLine, recordLine, targetLines, printed};
+ghost use Rattle.printing.specs.Printing.{Put, decimal, signedDecimal, spaced, answerText, answerLine, targetLine, recordLine, targetLines, printed};
+use format::Answer;
+use format::TargetRecord;
+use sheet_walk::Place;
+
+// Room for the line of an answer.
+pub const LINE: usize = 96;
 
 fn digit(d: usize) -> u8
     requires { ⌜ d < 10 ⌝ }
@@ -34,8 +40,7 @@ pub fn put_decimal(o: &mut [u8], at: usize, n: usize) -> usize
 // The numbers of a line, each after a space, in at most 21 bytes.
 fn put_spaced(o: &mut [u8], at: usize, n: usize) -> usize
     requires { ⌜ at + 21 ≤ length (now o) ⌝ }
-    ensures { λ r. ⌜ (r ≡ at + length (spaced (n ∷ []))) × (r ≤ at + 21) ⌝ }
-    ensures { λ _. ⌜ now (o .exit) ≡ sets (now (o .entry)) at (spaced (n ∷ [])) ⌝ }
+    ensures { λ r. ⌜ Put 21 (now (o .entry)) at (spaced (n ∷ [])) r (now (o .exit)) ⌝ }
 {
     o[at] = 32;
     put_decimal(o, at + 1, n)
@@ -43,8 +48,7 @@ fn put_spaced(o: &mut [u8], at: usize, n: usize) -> usize
 
 fn put_three(o: &mut [u8], at: usize, a: usize, b: usize, c: usize) -> usize
     requires { ⌜ at + 63 ≤ length (now o) ⌝ }
-    ensures { λ r. ⌜ (r ≡ at + length (spaced (a ∷ b ∷ c ∷ []))) × (r ≤ at + 63) ⌝ }
-    ensures { λ _. ⌜ now (o .exit) ≡ sets (now (o .entry)) at (spaced (a ∷ b ∷ c ∷ [])) ⌝ }
+    ensures { λ r. ⌜ Put 63 (now (o .entry)) at (spaced (a ∷ b ∷ c ∷ [])) r (now (o .exit)) ⌝ }
 {
     let p = put_spaced(o, at, a);
     let q = put_spaced(o, p, b);
@@ -52,28 +56,19 @@ fn put_three(o: &mut [u8], at: usize, a: usize, b: usize, c: usize) -> usize
 }
 
 // An answer without the end of its line, in at most 86 bytes.
-pub fn put_answer(o: &mut [u8], at: usize, a: format::Answer) -> usize
+pub fn put_answer(o: &mut [u8], at: usize, a: Answer) -> usize
     requires { ⌜ at + 86 ≤ length (now o) ⌝ }
     ensures { λ r. ⌜ (r ≡ at + length (answerText a)) × (r ≤ at + 86) ⌝ }
     ensures { λ _. ⌜ now (o .exit) ≡ sets (now (o .entry)) at (answerText a) ⌝ }
 {
     match a {
-        format::Answer::Accepted {
-            segments,
-            dwells,
-            targets,
-            length,
-        } => {
+        Answer::Accepted(segments, dwells, targets, length) => {
             o[at] = b'o';
             o[at + 1] = b'k';
             let p = put_three(o, at + 2, segments, dwells, targets);
             put_spaced(o, p, length)
         }
-        format::Answer::Refused {
-            number,
-            segment,
-            field,
-        } => {
+        Answer::Refused(number, segment, field) => {
             o[at] = b'n';
             o[at + 1] = b'o';
             put_three(o, at + 2, number, segment, field)
@@ -81,7 +76,7 @@ pub fn put_answer(o: &mut [u8], at: usize, a: format::Answer) -> usize
     }
 }
 
-pub fn answer_line(o: &mut [u8], a: format::Answer) -> usize
+pub fn answer_line(o: &mut [u8], a: Answer) -> usize
     requires { ⌜ 96 ≤ length (now o) ⌝ }
     ensures { λ r. ⌜ (r ≡ length (answerLine a)) × (r ≤ 96) ⌝ }
     ensures { λ _. ⌜ now (o .exit) ≡ sets (now (o .entry)) 0 (answerLine a) ⌝ }
@@ -93,8 +88,7 @@ pub fn answer_line(o: &mut [u8], a: format::Answer) -> usize
 
 fn put_signed(o: &mut [u8], at: usize, z: i32) -> usize
     requires { ⌜ at + 21 ≤ length (now o) ⌝ }
-    ensures { λ r. ⌜ (r ≡ at + length (signedDecimal z)) × (r ≤ at + 21) ⌝ }
-    ensures { λ _. ⌜ now (o .exit) ≡ sets (now (o .entry)) at (signedDecimal z) ⌝ }
+    ensures { λ r. ⌜ Put 21 (now (o .entry)) at (signedDecimal z) r (now (o .exit)) ⌝ }
 {
     if z < 0 {
         o[at] = b'-';
@@ -106,48 +100,48 @@ fn put_signed(o: &mut [u8], at: usize, z: i32) -> usize
 
 // The line of a target is shorter than its body.
 fn target_line(o: &mut [u8], at: usize, b: &[u8]) -> usize
-    requires { ⌜ (at + 44 ≤ length (now o)) × (44 ≤ length (now b)) ⌝ }
-    ensures { λ r. ⌜ (r ≡ at + length (targetLine (now (b .entry)))) × (r ≤ at + 44) ⌝ }
-    ensures { λ _. ⌜ now (o .exit) ≡ sets (now (o .entry)) at (targetLine (now (b .entry))) ⌝ }
+    requires { ⌜ (at + bodyLength 4 ≤ length (now o)) × (length (now b) ≡ bodyLength 4) ⌝ }
+    ensures { λ r. ⌜ Put (bodyLength 4) (now (o .entry)) at (targetLine (now (b .entry))) r (now (o .exit)) ⌝ }
 {
-    let p = put_signed(o, at, octets::get_i32(b, 36));
-    let q = put_spaced(o, p, octets::get_u32(b, 40) as usize);
+    let p = put_signed(o, at, octets::get_i32(b, TargetRecord::LATITUDE));
+    let q = put_spaced(o, p, octets::get_u32(b, TargetRecord::LONGITUDE) as usize);
     o[q] = b'\n';
     q + 1
 }
 
 fn record_line(o: &mut [u8], at: usize, kind: u8, b: &[u8]) -> usize
-    requires { ⌜ (at + length (now b) ≤ length (now o)) × (length (now b) ≡ bodyLength kind) ⌝ }
-    ensures { λ r. ⌜ (r ≡ at + length (recordLine (record { kind = kind; body = now (b .entry) }))) × (r ≤ at + length (now (b .entry))) ⌝ }
-    ensures { λ _. ⌜ now (o .exit) ≡ sets (now (o .entry)) at (recordLine (record { kind = kind; body = now (b .entry) })) ⌝ }
+    requires { ⌜ (at + bodyLength kind ≤ length (now o)) × (length (now b) ≡ bodyLength kind) ⌝ }
+    ensures { λ r. ⌜ Put (bodyLength kind) (now (o .entry)) at (recordLine (record { kind = kind; body = now (b .entry) })) r (now (o .exit)) ⌝ }
 {
-    if kind == 4 { target_line(o, at, b) } else { at }
+    if kind == TargetRecord::KIND {
+        target_line(o, at, b)
+    } else {
+        at
+    }
 }
 
 // The records of x up to its end, or to one that is cut or of no kind.
 fn target_lines(o: &mut [u8], start: usize, x: &[u8]) -> usize
     requires { ⌜ start + length (now x) ≤ length (now o) ⌝ }
-    ensures { λ r. ⌜ r ≡ start + length (targetLines (listed (now (x .entry)) .records)) ⌝ }
-    ensures { λ _. ⌜ now (o .exit) ≡ sets (now (o .entry)) start (targetLines (listed (now (x .entry)) .records)) ⌝ }
-    ensures { λ r. ⌜ r ≤ start + length (now (x .entry)) ⌝ }
+    ensures { λ r. ⌜ Put (length (now (x .entry))) (now (o .entry)) start (targetLines (listed (now (x .entry)) .records)) r (now (o .exit)) ⌝ }
 {
     let mut p = start;
     let mut at = 0;
-    while at < x.len() {
-        let kind = x[at];
-        let n = shape::body_length(kind);
-        if n == 0 {
-            return p;
+    loop {
+        match sheet_walk::record_at(x, at) {
+            Place::Whole(kind, end) => {
+                let body = at + 1;
+                p = record_line(o, p, kind, &x[body..end]);
+                at = end;
+            }
+            Place::End => {
+                return p;
+            }
+            Place::Cut => {
+                return p;
+            }
         }
-        if x.len() - at - 1 < n {
-            return p;
-        }
-        let from = at + 1;
-        let to = from + n;
-        p = record_line(o, p, kind, &x[from..to]);
-        at = to;
     }
-    p
 }
 
 // The first n bytes of s, or all of them.
@@ -157,7 +151,7 @@ pub fn front(s: &[u8], n: usize) -> &[u8]
     if n <= s.len() { &s[..n] } else { s }
 }
 
-pub fn print(a: format::Answer, sheet: &[u8], o: &mut [u8]) -> usize
+pub fn print(a: Answer, sheet: &[u8], o: &mut [u8]) -> usize
     requires { ⌜ 96 + length (now sheet) ≤ length (now o) ⌝ }
     ensures { λ r. ⌜ r ≡ length (printed a (now (sheet .entry))) ⌝ }
     ensures { λ _. ⌜ now (o .exit) ≡ sets (now (o .entry)) 0 (printed a (now (sheet .entry))) ⌝ }
@@ -165,16 +159,7 @@ pub fn print(a: format::Answer, sheet: &[u8], o: &mut [u8]) -> usize
 {
     let p = answer_line(o, a);
     match a {
-        format::Answer::Accepted {
-            segments: _,
-            dwells: _,
-            targets: _,
-            length,
-        } => target_lines(o, p, front(sheet, length)),
-        format::Answer::Refused {
-            number: _,
-            segment: _,
-            field: _,
-        } => p,
+        Answer::Accepted(_, _, _, length) => target_lines(o, p, front(sheet, length)),
+        Answer::Refused(..) => p,
     }
 }

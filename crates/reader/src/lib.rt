@@ -3,70 +3,95 @@ ghost use mathlib.Core.Path.{_≡_};
 ghost use Prim.Native.Nat.{_≤_};
 ghost use lib.ListN.{length};
 ghost use lib.Seq.{sets};
-ghost use Rattle.format.specs.declared.Check.the-variants.{Passed};
 ghost use Rattle.format.specs.Answer.{outcome};
-ghost use Rattle.format.specs.Rows.{firstRow, headerRows};
-ghost use Rattle.format.specs.Reader.{parsed, sheet as sheetOf, readingAnswer, read as readOutcome};
+ghost use Rattle.format.specs.Edition.{asEdition};
+ghost use Rattle.format.specs.Reader.{sheet as sheetOf, readingAnswer, read as readOutcome};
+ghost use Rattle.segments.specs.Walk.{Checked, bytesOf, CheckedAll, CheckedPacket, allBytes};
+use format::Answer;
+use format::Check;
+
+// The records of a segment that is checked, by its type.
+pub fn segment_records(r: format::Reading, segment_type: u8, b: &[u8], o: &mut [u8])
+    requires { ⌜ Checked r «segment_type» (now b) × (length (bytesOf r «segment_type» (now b)) ≤ length (now o)) ⌝ }
+    ensures { λ _. ⌜ now (o .exit) ≡ sets (now (o .entry)) 0 (bytesOf r «segment_type» (now (b .entry))) ⌝ }
+{
+    match segment_type {
+        1 => records::mission_records(b, o),
+        2 => dwell_records::dwell_records(r, b, o),
+        5 => records::job_records(r, b, o),
+        6 => records::text_records(b, o),
+        10 => records::test_records(b, o),
+        13 => records::location_records(b, o),
+        _ => records::opaque_records(segment_type, b, o),
+    }
+}
+
+// The records of all segments of l, the packet behind its header, once no row applies.
+fn packet_records(r: format::Reading, l: &[u8], o: &mut [u8])
+    requires { ⌜ CheckedAll r (now l) × (length (allBytes r (now l)) ≤ length (now o)) ⌝ }
+    ensures { λ _. ⌜ now (o .exit) ≡ sets (now (o .entry)) 0 (allBytes r (now (l .entry))) ⌝ }
+{
+    let mut at = 0;
+    let mut to = 0;
+    while at < l.len() {
+        let t = &l[at..];
+        let size = segments::size_at(t);
+        let segment_type = t[0];
+        let b = &t[5..size];
+        segment_records(r, segment_type, b, &mut o[to..]);
+        to += segments::records_length(r, segment_type, b);
+        at += size;
+    }
+}
 
 // Rows 1 to 15 of the packet, with no sheet lent: the counts, and the length that its sheet has.
-pub fn check(edition: u32, packet: &[u8]) -> format::Answer
-    ensures { λ a. ⌜ a ≡ readingAnswer edition (now (packet .entry)) (length (sheetOf edition (now (packet .entry)))) ⌝ }
+fn check_with(settings: format::Settings, packet: &[u8]) -> Answer
+    ensures { λ a. ⌜ a ≡ readingAnswer settings (now (packet .entry)) (length (sheetOf settings (now (packet .entry)))) ⌝ }
 {
-    if let format::Check::Failed { number, field } = checks::header_check(edition, packet) {
-        return format::Answer::Refused {
-            number,
-            segment: 0,
-            field,
-        };
+    if let Check::Failed(number, field) = checks::header_check(settings, packet) {
+        return Answer::Refused(number, 0, field);
     }
-    let first = packet[0];
-    let version = first - 48;
-    let r = format::Reading { edition, version };
+    let r = checks::reading_of(settings, packet);
     segments::check(r, &packet[32..])
 }
 
 // The sheet of a packet to which no row applies: the header's record, and those of the segments behind it.
-fn set_out(edition: u32, packet: &[u8], sheet: &mut [u8])
-    requires { ⌜ (firstRow (headerRows edition (now packet)) ≡ Passed) × (parsed edition (now packet) .ending ≡ Passed) × (length (sheetOf edition (now packet)) ≤ length (now sheet)) ⌝ }
-    ensures { λ _. ⌜ now (sheet .exit) ≡ sets (now (sheet .entry)) 0 (sheetOf edition (now (packet .entry))) ⌝ }
+fn set_out(settings: format::Settings, packet: &[u8], sheet: &mut [u8])
+    requires { ⌜ CheckedPacket settings (now packet) × (length (sheetOf settings (now packet)) ≤ length (now sheet)) ⌝ }
+    ensures { λ _. ⌜ now (sheet .exit) ≡ sets (now (sheet .entry)) 0 (sheetOf settings (now (packet .entry))) ⌝ }
 {
-    let first = packet[0];
-    let version = first - 48;
-    let r = format::Reading { edition, version };
+    let r = checks::reading_of(settings, packet);
     records::header_record(packet, sheet);
-    sheets::packet_records(
-        r,
-        &packet[32..],
-        &mut sheet[1 + format::HeaderRecord::LEN..],
-    );
+    packet_records(r, &packet[32..], &mut sheet[format::HeaderRecord::WHOLE..]);
 }
 
-// Reads the packet as this edition, and sets it out on the lent sheet. Nothing is written before every row has been looked at.
-pub fn read(edition: u32, packet: &[u8], sheet: &mut [u8]) -> format::Answer
-    ensures { λ a. ⌜ outcome a (now (sheet .exit)) ≡ readOutcome edition (now (packet .entry)) (now (sheet .entry)) ⌝ }
+// The sheet set out where it is lent enough. Nothing is written before every row has been looked at.
+fn read_with(settings: format::Settings, packet: &[u8], sheet: &mut [u8]) -> Answer
+    ensures { λ a. ⌜ outcome a (now (sheet .exit)) ≡ readOutcome settings (now (packet .entry)) (now (sheet .entry)) ⌝ }
 {
-    let answer = check(edition, packet);
+    let answer = check_with(settings, packet);
     match answer {
-        format::Answer::Refused {
-            number: _,
-            segment: _,
-            field: _,
-        } => answer,
-        format::Answer::Accepted {
-            segments: _,
-            dwells: _,
-            targets: _,
-            length,
-        } => {
+        Answer::Refused(..) => answer,
+        Answer::Accepted(_, _, _, length) => {
             if sheet.len() < length {
-                return format::Answer::Refused {
-                    number: 16,
-                    segment: 0,
-                    field: 0,
-                };
+                return Answer::Refused(16, 0, 0);
             }
-            set_out(edition, packet, sheet);
+            set_out(settings, packet, sheet);
             answer
         }
     }
+}
+
+// The answer of the packet read as this edition, with no sheet lent.
+pub fn check(edition: u32, packet: &[u8]) -> Answer
+    ensures { λ a. ⌜ a ≡ readingAnswer (asEdition edition) (now (packet .entry)) (length (sheetOf (asEdition edition) (now (packet .entry)))) ⌝ }
+{
+    check_with(format::Settings { edition }, packet)
+}
+
+// Reads the packet as this edition, and sets it out on the lent sheet.
+pub fn read(edition: u32, packet: &[u8], sheet: &mut [u8]) -> Answer
+    ensures { λ a. ⌜ outcome a (now (sheet .exit)) ≡ readOutcome (asEdition edition) (now (packet .entry)) (now (sheet .entry)) ⌝ }
+{
+    read_with(format::Settings { edition }, packet, sheet)
 }

@@ -13,7 +13,7 @@ use Rattle.octets.proofs.Laws.{length-bytes, then}
 use Rattle.format.specs.declared.Reading.{Reading}
 use Rattle.format.specs.Packet.{jobWidths}
 use Rattle.format.specs.Edition.{isOlder, shown, mark}
-use Rattle.format.specs.Sheet.{bodyLength, recordOf, piecesOf, textRecords, opaqueRecords, jobRecords, recordBytes}
+use Rattle.format.specs.Sheet.{bodyLength, recordLength, recordOf, piecesOf, textRecords, opaqueRecords, jobRecords, recordBytes}
 use Rattle.records.proofs.Stores.{sets-within}
 use Rattle.format.proofs.Lengths.{length-one}
 use Rattle.records.proofs.Laid.{record-laid, records-then, full-body}
@@ -59,12 +59,12 @@ text-first b l {x} h hx hy hw =
 
 -- and the pieces behind it
 pub text-laid : (b l : List ℕ) {z w : List ℕ}
-    → z ≡ sets l 0 (recordBytes (recordOf 5 (take 20 b ++ bytes 4 (length b - 20)) ∷ [])) → w ≡ sets z 25 (recordBytes (piecesOf (drop 20 b)))
+    → z ≡ sets l 0 (recordBytes (recordOf 5 (take 20 b ++ bytes 4 (length b - 20)) ∷ [])) → w ≡ sets z (recordLength 5) (recordBytes (piecesOf (drop 20 b)))
     → w ≡ sets l 0 (recordBytes (textRecords b))
 unfolding textRecords bodyLength
 text-laid b l hz hw =
     let v = take 20 b ++ bytes 4 (length b - 20) in
-    records-then (recordOf 5 v ∷ []) (piecesOf (drop 20 b)) l 0 25 hz (length-one 5 v) hw
+    records-then (recordOf 5 v ∷ []) (piecesOf (drop 20 b)) l 0 (recordLength 5) hz (length-one 5 v) hw
 
 -- the record of an opaque segment: the type, and the length
 pub opaque-first : (type : ℕ) (b l : List ℕ) {x y w : List ℕ}
@@ -77,8 +77,8 @@ opaque-first type b l {x} hx hy hw =
 
 -- and the pieces behind it
 pub opaque-laid : (type : ℕ) (b l : List ℕ) {z w : List ℕ}
-    → z ≡ sets l 0 (recordBytes (recordOf 7 (type ∷ bytes 4 (length b)) ∷ [])) → w ≡ sets z 6 (recordBytes (piecesOf b)) → w ≡ sets l 0 (recordBytes (opaqueRecords type b))
+    → z ≡ sets l 0 (recordBytes (recordOf 7 (type ∷ bytes 4 (length b)) ∷ [])) → w ≡ sets z (recordLength 7) (recordBytes (piecesOf b)) → w ≡ sets l 0 (recordBytes (opaqueRecords type b))
 unfolding opaqueRecords bodyLength
 opaque-laid type b l hz hw =
     let v = type ∷ bytes 4 (length b) in
-    records-then (recordOf 7 v ∷ []) (piecesOf b) l 0 6 hz (length-one 7 v) hw
+    records-then (recordOf 7 v ∷ []) (piecesOf b) l 0 (recordLength 7) hz (length-one 7 v) hw

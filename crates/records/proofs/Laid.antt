@@ -5,7 +5,7 @@ use mathlib.Core.List.{List, [], _∷_, _++_, append-nil}
 use Prim.Native.Nat.{ℕ, zero, suc, _+_, _-_, _*_, _≤_}
 use native.Mathlib.Nat.{zero-add, suc-add, zero-mul, suc-mul}
 use native.Mathlib.Omega.{arith}
-use lib.ListN.{length, take, drop, length-append}
+use lib.ListN.{length, take, drop}
 use lib.Seq.{sets, drop-drop}
 use borrow.Rule.Slice.PartMut.{midOf, putMid}
 use Rattle.octets.specs.Layout.{pad}
@@ -53,16 +53,6 @@ module _ (r : List ℕ → Record) (rs : ℕ → List ℕ → List Record) (u w 
       ∙ ap (λ (x : List ℕ). sets o q (recordBytes (r (drop p b) ∷ rs k x))) (sym (drop-drop u p b))
       ∙ ap (λ (x : List Record). sets o q (recordBytes x)) (sym (step k (drop p b)))
       ∙ ap (λ (j : ℕ). sets o q (recordBytes (rs j (drop p b)))) (sym hn) ∙ e
-
-  -- and their length
-  pub length-records : (none : (b : List ℕ) → rs 0 b ≡ []) (n : ℕ) (b : List ℕ) → length (recordBytes (rs n b)) ≡ n * w
-  unfolding recordBytes
-  length-records none zero b = ap (λ (x : List Record). length (recordBytes x)) (none b) ∙ sym (zero-mul w)
-  length-records none (suc n) b =
-      ap (λ (x : List Record). length (recordBytes x)) (step n b)
-      ∙ ap length (bytes-append (r b ∷ []) (rs n (drop u b)))
-      ∙ length-append (recordBytes (r b ∷ [])) (recordBytes (rs n (drop u b)))
-      ∙ omega (arith, len b, length-records none n (drop u b), suc-mul n w)
 
   -- the first j, and those behind them
   pub records-append : (none : (b : List ℕ) → rs 0 b ≡ []) (j k : ℕ) (b : List ℕ) → rs (j + k) b ≡ rs j b ++ rs k (drop (j * u) b)

@@ -11,11 +11,11 @@ use lib.Seq.{sets, take-take, take-all, length-take-le}
 use Rattle.octets.specs.Layout.{pad}
 use Rattle.octets.proofs.Laws.{then}
 use Rattle.octets.proofs.Layouts.{pad-take, length-pad}
-use Rattle.format.specs.Sheet.{Record, bodyLength, recordOf, recordBytes, pieceRecord, pieceRecords, pieceCount, piecesOf}
+use Rattle.format.specs.Sheet.{Record, bodyLength, recordLength, recordOf, recordBytes, pieceRecord, pieceRecords, pieceCount, piecesOf}
 use Rattle.records.proofs.Stores.{sets-within}
-use Rattle.format.proofs.Lengths.{length-one}
+use Rattle.format.proofs.Lengths.{length-one, length-pieces}
 use Rattle.format.proofs.Segments.{part-is}
-use Rattle.records.proofs.Laid.{record-laid, records-then, records-next, length-records, records-append}
+use Rattle.records.proofs.Laid.{record-laid, records-then, records-next, records-append}
 
 -- ---- one piece
 
@@ -59,7 +59,7 @@ last-laid b l {x} {y} h hx hy hz hw =
 -- ---- pieces in a row
 
 -- the length of a piece
-length-piece : (b : List ℕ) → length (recordBytes (pieceRecord b ∷ [])) ≡ 34
+length-piece : (b : List ℕ) → length (recordBytes (pieceRecord b ∷ [])) ≡ recordLength 6
 unfolding pieceRecord bodyLength
 length-piece b = length-one 6 _
 
@@ -70,18 +70,18 @@ piece-step n b = refl
 
 -- the loop over full pieces: once piece i is stored, what is left to store still gives all of them
 pub pieces-next : (count i : ℕ) (b o all : List ℕ) {m : List ℕ}
-    → i < count → m ≡ sets o (i * 34) (recordBytes (pieceRecord (drop (i * 32) b) ∷ [])) → sets o (i * 34) (recordBytes (pieceRecords (count - i) (drop (i * 32) b))) ≡ all
-    → sets m ((i + 1) * 34) (recordBytes (pieceRecords (count - (i + 1)) (drop ((i + 1) * 32) b))) ≡ all
+    → i < count → m ≡ sets o (i * recordLength 6) (recordBytes (pieceRecord (drop (i * 32) b) ∷ [])) → sets o (i * recordLength 6) (recordBytes (pieceRecords (count - i) (drop (i * 32) b))) ≡ all
+    → sets m ((i + 1) * recordLength 6) (recordBytes (pieceRecords (count - (i + 1)) (drop ((i + 1) * 32) b))) ≡ all
 pieces-next count i b o all h hm e =
-    let p : (i + 1) * 34 ≡ i * 34 + 34 = omega arith in
+    let p : (i + 1) * recordLength 6 ≡ i * recordLength 6 + recordLength 6 = omega arith in
     let q : (i + 1) * 32 ≡ i * 32 + 32 = omega arith in
-    rw (p, q) (records-next pieceRecord pieceRecords 32 34 piece-step length-piece (count - i) (count - (i + 1)) (i * 32) (i * 34) b o all (omega arith) hm e)
+    rw (p, q) (records-next pieceRecord pieceRecords 32 (recordLength 6) piece-step length-piece (count - i) (count - (i + 1)) (i * 32) (i * recordLength 6) b o all (omega arith) hm e)
 
 -- at first all are left to store, and at the end none
-pub pieces-first : (count : ℕ) (b o : List ℕ) → sets o (0 * 34) (recordBytes (pieceRecords (count - 0) (drop (0 * 32) b))) ≡ sets o 0 (recordBytes (pieceRecords count b))
+pub pieces-first : (count : ℕ) (b o : List ℕ) → sets o (0 * recordLength 6) (recordBytes (pieceRecords (count - 0) (drop (0 * 32) b))) ≡ sets o 0 (recordBytes (pieceRecords count b))
 pieces-first count b o = rw sub-zero
 
-pub pieces-last : (count i : ℕ) (b o w : List ℕ) → count ≤ i → sets o (i * 34) (recordBytes (pieceRecords (count - i) (drop (i * 32) b))) ≡ w → o ≡ w
+pub pieces-last : (count i : ℕ) (b o w : List ℕ) → count ≤ i → sets o (i * recordLength 6) (recordBytes (pieceRecords (count - i) (drop (i * 32) b))) ≡ w → o ≡ w
 unfolding pieceRecords recordBytes
 pieces-last count i b o w h e = let n : count - i ≡ 0 = omega arith in rw n at e
 
@@ -90,28 +90,23 @@ pieces-last count i b o w h e = let n : count - i ≡ 0 = omega arith in rw n at
 -- the first j pieces, and those behind them
 pieces-append : (j k : ℕ) (b : List ℕ) → pieceRecords (j + k) b ≡ pieceRecords j b ++ pieceRecords k (drop (j * 32) b)
 unfolding pieceRecords
-pieces-append = records-append pieceRecord pieceRecords 32 34 piece-step length-piece (λ b. refl)
+pieces-append = records-append pieceRecord pieceRecords 32 (recordLength 6) piece-step length-piece (λ b. refl)
 
 -- one more piece comes behind the others
 pieces-more : (n : ℕ) (b : List ℕ) → pieceRecords (suc n) b ≡ pieceRecords n b ++ (pieceRecord (drop (n * 32) b) ∷ [])
 unfolding pieceRecords
 pieces-more n b = ap (λ (k : ℕ). pieceRecords k b) (sym (add-one n)) ∙ pieces-append n 1 b
 
--- the length of pieces
-length-pieces : (n : ℕ) (b : List ℕ) → length (recordBytes (pieceRecords n b)) ≡ n * 34
-unfolding pieceRecords
-length-pieces = length-records pieceRecord pieceRecords 32 34 piece-step length-piece (λ b. refl)
-
 -- the full ones, and behind them one that is not full
 pub pieces-with-last : (b o : List ℕ) {m w : List ℕ}
-    → length b / 32 * 32 < length b → m ≡ sets o 0 (recordBytes (pieceRecords (length b / 32) b)) → w ≡ sets m (length b / 32 * 34) (recordBytes (pieceRecord (drop (length b / 32 * 32) b) ∷ []))
+    → length b / 32 * 32 < length b → m ≡ sets o 0 (recordBytes (pieceRecords (length b / 32) b)) → w ≡ sets m (length b / 32 * recordLength 6) (recordBytes (pieceRecord (drop (length b / 32 * 32) b) ∷ []))
     → w ≡ sets o 0 (recordBytes (pieceRecords (pieceCount (length b)) b))
 unfolding pieceCount
 pieces-with-last b o {m} h hm hw =
     let n : (length b + 31) / 32 ≡ suc (length b / 32) = omega arith in
-    let k : 0 + length b / 32 * 34 ≡ length b / 32 * 34 = omega arith in
+    let k : 0 + length b / 32 * recordLength 6 ≡ length b / 32 * recordLength 6 = omega arith in
     rw (n, pieces-more (length b / 32) b)
-    (records-then (pieceRecords (length b / 32) b) (pieceRecord (drop (length b / 32 * 32) b) ∷ []) o 0 (length b / 32 * 34) hm (length-pieces (length b / 32) b) (rw k hw))
+    (records-then (pieceRecords (length b / 32) b) (pieceRecord (drop (length b / 32 * 32) b) ∷ []) o 0 (length b / 32 * recordLength 6) hm (length-pieces (length b / 32) b) (rw k hw))
 
 -- where all are full
 pub pieces-all-full : (b o : List ℕ) {m : List ℕ}

@@ -7,7 +7,23 @@ ghost use lib.ListN.{length, take};
 ghost use lib.Seq.{sets};
 ghost use Rattle.octets.specs.Octets.{bytes};
 ghost use Rattle.format.specs.Edition.{isOlder};
-ghost use Rattle.format.specs.Sheet.{recordOf, headerRecord, pieceRecord, pieceRecords, piecesOf, pieceCount, missionRecords, textRecords, opaqueRecords, jobRecords, testRecords, locationRecords, recordBytes};
+ghost use Rattle.format.specs.Sheet.{recordLength, recordOf, headerRecord, pieceRecord, pieceRecords, piecesOf, pieceCount, missionRecords, textRecords, opaqueRecords, jobRecords, testRecords, locationRecords, recordBytes};
+
+// Places in whole records, which begin with their kind.
+const J26: usize = 1 + format::JobRecord::J26;
+
+const JOB_MARK: usize = 1 + format::JobRecord::MARK;
+
+const F3_LENGTH: usize = 1 + format::TextRecord::F3_LENGTH;
+
+const BODY_LENGTH: usize = 1 + format::OpaqueRecord::BODY_LENGTH;
+
+const BYTES: usize = 1 + format::PieceRecord::BYTES;
+
+// The bytes of a full piece, and the count that it begins with.
+const FULL: usize = format::PieceRecord::FULL;
+
+const COUNT: u8 = format::PieceRecord::FULL as u8;
 
 // A byte by itself: a record's kind, a type, a count or a mark.
 pub fn put_byte(o: &mut [u8], q: usize, v: u8)
@@ -18,7 +34,7 @@ pub fn put_byte(o: &mut [u8], q: usize, v: u8)
 }
 
 pub fn header_record(l: &[u8], o: &mut [u8])
-    requires { ⌜ (32 ≤ length (now l)) × (33 ≤ length (now o)) ⌝ }
+    requires { ⌜ (32 ≤ length (now l)) × (recordLength 1 ≤ length (now o)) ⌝ }
     ensures { λ _. ⌜ now (o .exit) ≡ sets (now (o .entry)) 0 (recordBytes (headerRecord (now (l .entry)) ∷ [])) ⌝ }
 {
     put_byte(o, 0, format::HeaderRecord::KIND);
@@ -26,7 +42,7 @@ pub fn header_record(l: &[u8], o: &mut [u8])
 }
 
 pub fn mission_records(b: &[u8], o: &mut [u8])
-    requires { ⌜ (length (now b) ≡ 39) × (40 ≤ length (now o)) ⌝ }
+    requires { ⌜ (length (now b) ≡ 39) × (recordLength 2 ≤ length (now o)) ⌝ }
     ensures { λ _. ⌜ now (o .exit) ≡ sets (now (o .entry)) 0 (recordBytes (missionRecords (now (b .entry)))) ⌝ }
 {
     put_byte(o, 0, format::MissionRecord::KIND);
@@ -41,17 +57,17 @@ fn j26_shown(r: format::Reading, j26: u8) -> u8
 }
 
 pub fn job_records(r: format::Reading, b: &[u8], o: &mut [u8])
-    requires { ⌜ (length (now b) ≡ 68) × (70 ≤ length (now o)) ⌝ }
+    requires { ⌜ (length (now b) ≡ 68) × (recordLength 8 ≤ length (now o)) ⌝ }
     ensures { λ _. ⌜ now (o .exit) ≡ sets (now (o .entry)) 0 (recordBytes (jobRecords r (now (b .entry)))) ⌝ }
 {
     put_byte(o, 0, format::JobRecord::KIND);
     copies::copy68(b, 0, o, 1);
-    put_byte(o, 66, j26_shown(r, b[65]));
-    put_byte(o, 69, editions::mark_of(r));
+    put_byte(o, J26, j26_shown(r, b[format::JobRecord::J26]));
+    put_byte(o, JOB_MARK, editions::mark_of(r));
 }
 
 pub fn test_records(b: &[u8], o: &mut [u8])
-    requires { ⌜ (length (now b) ≡ 14) × (15 ≤ length (now o)) ⌝ }
+    requires { ⌜ (length (now b) ≡ 14) × (recordLength 9 ≤ length (now o)) ⌝ }
     ensures { λ _. ⌜ now (o .exit) ≡ sets (now (o .entry)) 0 (recordBytes (testRecords (now (b .entry)))) ⌝ }
 {
     put_byte(o, 0, format::TestRecord::KIND);
@@ -59,7 +75,7 @@ pub fn test_records(b: &[u8], o: &mut [u8])
 }
 
 pub fn location_records(b: &[u8], o: &mut [u8])
-    requires { ⌜ (length (now b) ≡ 23) × (24 ≤ length (now o)) ⌝ }
+    requires { ⌜ (length (now b) ≡ 23) × (recordLength 10 ≤ length (now o)) ⌝ }
     ensures { λ _. ⌜ now (o .exit) ≡ sets (now (o .entry)) 0 (recordBytes (locationRecords (now (b .entry)))) ⌝ }
 {
     put_byte(o, 0, format::LocationRecord::KIND);
@@ -68,81 +84,81 @@ pub fn location_records(b: &[u8], o: &mut [u8])
 
 // A full piece.
 fn full_piece(b: &[u8], o: &mut [u8])
-    requires { ⌜ (32 ≤ length (now b)) × (34 ≤ length (now o)) ⌝ }
+    requires { ⌜ (32 ≤ length (now b)) × (recordLength 6 ≤ length (now o)) ⌝ }
     ensures { λ _. ⌜ now (o .exit) ≡ sets (now (o .entry)) 0 (recordBytes (pieceRecord (now (b .entry)) ∷ [])) ⌝ }
 {
     put_byte(o, 0, format::PieceRecord::KIND);
-    put_byte(o, 1, 32);
-    copies::copy32(b, 0, o, 2);
+    put_byte(o, 1, COUNT);
+    copies::copy32(b, 0, o, BYTES);
 }
 
 // The last piece, which is not full: zeros behind its bytes.
 fn last_piece(b: &[u8], o: &mut [u8])
-    requires { ⌜ (length (now b) ≤ 31) × (34 ≤ length (now o)) ⌝ }
+    requires { ⌜ (length (now b) ≤ 31) × (recordLength 6 ≤ length (now o)) ⌝ }
     ensures { λ _. ⌜ now (o .exit) ≡ sets (now (o .entry)) 0 (recordBytes (pieceRecord (now (b .entry)) ∷ [])) ⌝ }
 {
     put_byte(o, 0, format::PieceRecord::KIND);
     put_byte(o, 1, b.len() as u8);
-    copies::clear32(o, 2);
-    copies::copy_all(b, o, 2);
+    copies::clear32(o, BYTES);
+    copies::copy_all(b, o, BYTES);
 }
 
 fn full_pieces(b: &[u8], count: usize, o: &mut [u8])
-    requires { ⌜ (count * 32 ≤ length (now b)) × (count * 34 ≤ length (now o)) ⌝ }
+    requires { ⌜ (count * 32 ≤ length (now b)) × (count * recordLength 6 ≤ length (now o)) ⌝ }
     ensures { λ _. ⌜ now (o .exit) ≡ sets (now (o .entry)) 0 (recordBytes (pieceRecords count (now (b .entry)))) ⌝ }
 {
     for i in 0..count {
-        full_piece(&b[i * 32..], &mut o[i * (1 + format::PieceRecord::LEN)..]);
+        full_piece(&b[i * FULL..], &mut o[i * format::PieceRecord::WHOLE..]);
     }
 }
 
 // The pieces that carry b.
 pub fn piece_records(b: &[u8], o: &mut [u8])
-    requires { ⌜ pieceCount (length (now b)) * 34 ≤ length (now o) ⌝ }
+    requires { ⌜ pieceCount (length (now b)) * recordLength 6 ≤ length (now o) ⌝ }
     ensures { λ _. ⌜ now (o .exit) ≡ sets (now (o .entry)) 0 (recordBytes (piecesOf (now (b .entry)))) ⌝ }
 {
-    let full = b.len() / 32;
+    let full = b.len() / FULL;
     full_pieces(b, full, o);
-    if full * 32 < b.len() {
+    if full * FULL < b.len() {
         last_piece(
-            &b[full * 32..],
-            &mut o[full * (1 + format::PieceRecord::LEN)..],
+            &b[full * FULL..],
+            &mut o[full * format::PieceRecord::WHOLE..],
         );
     }
 }
 
 // The record of a text, without its pieces.
 pub fn text_record(b: &[u8], o: &mut [u8])
-    requires { ⌜ (20 ≤ length (now b)) × (length (now b) ≤ 65536) × (25 ≤ length (now o)) ⌝ }
+    requires { ⌜ (20 ≤ length (now b)) × (length (now b) ≤ 65536) × (recordLength 5 ≤ length (now o)) ⌝ }
     ensures { λ _. ⌜ now (o .exit) ≡ sets (now (o .entry)) 0 (recordBytes (recordOf 5 (take 20 (now (b .entry)) ++ bytes 4 (length (now (b .entry)) - 20)) ∷ [])) ⌝ }
 {
     put_byte(o, 0, format::TextRecord::KIND);
     copies::copy20(b, 0, o, 1);
-    octets::put_u32(o, 21, (b.len() - 20) as u32);
+    octets::put_u32(o, F3_LENGTH, (b.len() - 20) as u32);
 }
 
 pub fn text_records(b: &[u8], o: &mut [u8])
-    requires { ⌜ (20 ≤ length (now b)) × (length (now b) ≤ 65536) × (25 + pieceCount (length (now b) - 20) * 34 ≤ length (now o)) ⌝ }
+    requires { ⌜ (20 ≤ length (now b)) × (length (now b) ≤ 65536) × (recordLength 5 + pieceCount (length (now b) - 20) * recordLength 6 ≤ length (now o)) ⌝ }
     ensures { λ _. ⌜ now (o .exit) ≡ sets (now (o .entry)) 0 (recordBytes (textRecords (now (b .entry)))) ⌝ }
 {
     text_record(b, o);
-    piece_records(&b[20..], &mut o[1 + format::TextRecord::LEN..]);
+    piece_records(&b[20..], &mut o[format::TextRecord::WHOLE..]);
 }
 
 // The record of an opaque segment, without its pieces.
-pub fn opaque_record(kind: u8, b: &[u8], o: &mut [u8])
-    requires { ⌜ (length (now b) ≤ 65536) × (6 ≤ length (now o)) ⌝ }
-    ensures { λ _. ⌜ now (o .exit) ≡ sets (now (o .entry)) 0 (recordBytes (recordOf 7 (kind ∷ bytes 4 (length (now (b .entry)))) ∷ [])) ⌝ }
+pub fn opaque_record(segment_type: u8, b: &[u8], o: &mut [u8])
+    requires { ⌜ (length (now b) ≤ 65536) × (recordLength 7 ≤ length (now o)) ⌝ }
+    ensures { λ _. ⌜ now (o .exit) ≡ sets (now (o .entry)) 0 (recordBytes (recordOf 7 («segment_type» ∷ bytes 4 (length (now (b .entry)))) ∷ [])) ⌝ }
 {
     put_byte(o, 0, format::OpaqueRecord::KIND);
-    put_byte(o, 1, kind);
-    octets::put_u32(o, 2, b.len() as u32);
+    put_byte(o, 1, segment_type);
+    octets::put_u32(o, BODY_LENGTH, b.len() as u32);
 }
 
-pub fn opaque_records(kind: u8, b: &[u8], o: &mut [u8])
-    requires { ⌜ (length (now b) ≤ 65536) × (6 + pieceCount (length (now b)) * 34 ≤ length (now o)) ⌝ }
-    ensures { λ _. ⌜ now (o .exit) ≡ sets (now (o .entry)) 0 (recordBytes (opaqueRecords kind (now (b .entry)))) ⌝ }
+pub fn opaque_records(segment_type: u8, b: &[u8], o: &mut [u8])
+    requires { ⌜ (length (now b) ≤ 65536) × (recordLength 7 + pieceCount (length (now b)) * recordLength 6 ≤ length (now o)) ⌝ }
+    ensures { λ _. ⌜ now (o .exit) ≡ sets (now (o .entry)) 0 (recordBytes (opaqueRecords «segment_type» (now (b .entry)))) ⌝ }
 {
-    opaque_record(kind, b, o);
-    piece_records(b, &mut o[1 + format::OpaqueRecord::LEN..]);
+    opaque_record(segment_type, b, o);
+    piece_records(b, &mut o[format::OpaqueRecord::WHOLE..]);
 }

@@ -1,6 +1,5 @@
-pub mod Given
+pub mod Followers
 pub mod Regrouped
-pub mod Behind
-pub mod ByKind
+pub mod Surveyed
 pub mod Stored
 pub mod Walk

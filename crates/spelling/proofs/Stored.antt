@@ -1,88 +1,120 @@
 -- What the code stores for a record is what the record adds to the packet.
 -- Assumes nothing.
-use mathlib.Core.Path.{_≡_, refl, sym, ap, ap₂, _∙_}
-use mathlib.Core.Bool.{false}
-use mathlib.Core.List.{List, _∷_, _++_}
-use Prim.Native.Nat.{ℕ, suc, _+_, _≤_}
+use mathlib.Core.Path.{_≡_, refl, ap, ap₂, _∙_}
+use mathlib.Core.Bool.{Bool, true, false, cond}
+use mathlib.Core.List.{List, [], _∷_, _++_}
+use Prim.Native.Nat.{ℕ, zero, suc, _+_, _≤_, zero-le}
+use native.Mathlib.Nat.{le-refl}
 use native.Mathlib.Omega.{arith}
 use borrow.Author.Tests.{ne-eqb}
-use lib.ListN.{length, getD, take, drop, length-append}
-use lib.Seq.{sets, length-take-le}
+use lib.Dec.{eqb}
+use lib.ListN.{length, getD, take, drop, length-drop}
+use lib.Seq.{sets, length-take-le, take-length}
 use Rattle.octets.specs.Octets.{be, bytes}
+use Rattle.octets.specs.Layout.{total}
 use Rattle.octets.proofs.Laws.{length-bytes, then}
-use Rattle.mask.specs.Fields.{announcedLength, announcedFields, dwellWidths, targetWidths, d32}
+use Rattle.mask.specs.Fields.{announcedLength, announcedFields, dwellWidths, targetWidths}
+use Rattle.mask.proofs.FullWidth.{length-announced}
 use Rattle.format.specs.Sheet.{Record, bodyLength}
-use Rattle.format.specs.Writer.{isFollower, typeOf, given}
-use Rattle.format.proofs.Rows.{neither}
-use Rattle.spelling.specs.Spelling.{sizeOf, spelt}
-use Rattle.spelling.proofs.Given.{target-given, piece-given, given-any}
-use Rattle.spelling.proofs.Regrouped.{is-target, follower-spelt, begins-spelt}
-use Rattle.spelling.proofs.ByKind.{dwell-long, dwell-given}
+use Rattle.format.specs.Writer.{given, givenBehind}
+use Rattle.sheet_walk.specs.declared.Lead.{Lead}
+use Rattle.sheet_walk.specs.Shape.{leadOf, sizeBy}
+use Rattle.sheet_walk.proofs.Leads.{dwell-given}
+use Rattle.spelling.specs.Spelling.{sizeOf, begun, spelt, recordIn, leading}
 
--- ---- a piece
+-- ---- what a record gives that begins a segment
 
-module _ (b : List ℕ) where
-  -- how many bytes it gives
-  pub piece-counts : length b ≡ 33 → getD b 0 0 ≤ 32 → length (given 0 (record { kind = 6; body = b })) ≡ getD b 0 0
-  unfolding bodyLength
-  piece-counts n h = piece-given 0 (record { kind = 6; body = b }) n refl h
+-- a list that stands at the front of another
+abbrev pub Front : List ℕ → List ℕ → Type 0
+Front g b = (length g ≤ length b) × (take (length g) b ≡ g)
 
-  -- so many bytes behind its count
-  pub piece-stored : (o : List ℕ) (n : ℕ) {p : List ℕ} → n ≡ getD b 0 0 → p ≡ sets o 0 (take n (drop 1 b)) → p ≡ sets o 0 (given 0 (record { kind = 6; body = b }))
-  unfolding given
-  piece-stored o n e h = h ∙ ap (λ (m : ℕ). sets o 0 (take m (drop 1 b))) e
-
--- ---- a record by its kind
+front : (k : ℕ) (b : List ℕ) → Front (take k b) b
+front zero b = (zero-le, refl)
+front (suc k) [] = (zero-le, refl)
+front (suc k) (y ∷ b) =
+    let f = front k b in
+    (omega arith, ap (λ (z : List ℕ). y ∷ z) (f .1))
 
 module _ (kind : ℕ) (b : List ℕ) where
-  -- a record that is neither a target nor a piece
-  pub no-follower : (kind ≡ 4 → ⊥) → (kind ≡ 6 → ⊥) → isFollower (record { kind = kind; body = b }) ≡ false
-  no-follower t p = rw (ne-eqb kind 4 t, ne-eqb kind 6 p)
+  -- where no field is left out by a mask, the front of the body
+  pub copied : (kind ≡ 3 → ⊥) → Front (given (recordIn kind b)) b
+  unfolding given
+  copied h = rw (ne-eqb kind 3 h) (go (eqb kind 5) (eqb kind 7) (eqb kind 8))
+    where
+      go : (s t u : Bool) → Front (cond s (take 20 b) (cond t [] (cond u (take 68 b) b))) b
+      go true t u = front 20 b
+      go false true u = (zero-le, refl)
+      go false false true = front 68 b
+      go false false false = (le-refl (length b), take-length b)
 
-  module _ (mask : ℕ) where
-    -- a piece adds what it carries
-    pub piece-spelt : kind ≡ 6 → given 0 (record { kind = 6; body = b }) ≡ spelt mask (record { kind = kind; body = b })
-    unfolding spelt given
-    piece-spelt e = rw e
-
-    -- a target adds its announced fields
-    pub target-spelt : kind ≡ 4 → announcedFields mask (d32 1) targetWidths b ≡ spelt mask (record { kind = kind; body = b })
-    unfolding spelt given
-    target-spelt e = rw e
-
-    -- how long its record is, and how many bytes it adds
-    pub target-long : length b ≡ bodyLength kind → kind ≡ 4 → length b ≡ 44
+  -- a dwell, of this length, gives so many bytes: its mask and the announced fields
+  module _ (size : length b ≡ bodyLength kind) (e : kind ≡ 3) where
+    pub dwell-long : length b ≡ 87
     unfolding bodyLength
-    target-long n e = n ∙ ap bodyLength e
+    dwell-long = size ∙ ap bodyLength e
 
-    pub target-length : length b ≡ bodyLength kind → kind ≡ 4 → announcedLength mask (d32 1) targetWidths ≡ length (spelt mask (record { kind = kind; body = b }))
-    target-length n e =
-        let r : Record = record { kind = kind; body = b } in
-        sym (target-given mask r n e) ∙ ap length (sym (follower-spelt mask r (is-target r e)))
+    pub dwell-length : length (given (recordIn kind b)) ≡ 8 + announcedLength (be 8 b) 2 dwellWidths
+    dwell-length = rw e (dwell-given b (size ∙ ap bodyLength e))
 
-    -- the mask and the announced fields of a dwell
-    pub dwell-stored : (size : length b ≡ bodyLength kind) → kind ≡ 3 → mask ≡ be 8 b → (o : List ℕ) {x w : List ℕ}
-        → x ≡ sets o 0 (take 8 (drop 0 b)) → w ≡ sets x 8 (announcedFields mask 2 dwellWidths (drop 8 b)) → w ≡ sets o 0 (given 0 (record { kind = kind; body = b }))
-    dwell-stored size e m o hx hw =
-        then (take 8 b) (announcedFields mask 2 dwellWidths (drop 8 b)) o 0 8 hx (length-take-le 8 b (omega (arith, dwell-long kind b size e))) hw
-        ∙ ap (λ (n : ℕ). sets o 0 (take 8 b ++ announcedFields n 2 dwellWidths (drop 8 b))) m
-        ∙ ap (sets o 0) (sym (dwell-given kind b size e))
+    pub dwell-stored : (mask : ℕ) → mask ≡ be 8 b → (o : List ℕ) {x w : List ℕ}
+        → x ≡ sets o 0 (take 8 b) → w ≡ sets x 8 (announcedFields mask 2 dwellWidths (drop 8 b)) → w ≡ sets o 0 (given (recordIn kind b))
+    unfolding given
+    dwell-stored mask m o hx hw =
+        rw e
+        (then (take 8 b) (announcedFields mask 2 dwellWidths (drop 8 b)) o 0 8 hx (length-take-le 8 b (omega (arith, dwell-long))) hw
+        ∙ ap (λ (n : ℕ). sets o 0 (take 8 b ++ announcedFields n 2 dwellWidths (drop 8 b))) m)
 
--- ---- a record that begins a segment
+-- ---- with the segment's header
 
-module _ (mask : ℕ) (r : Record) (f : isFollower r ≡ false) where
-  -- how many bytes it adds
-  pub leader-length : 5 + length (given 0 r) ≡ length (spelt mask r)
-  leader-length =
-      sym
-      (ap length (begins-spelt mask r f)
-      ∙ omega (arith, length-append (bytes 4 (sizeOf r)) (given mask r), length-bytes 4 (sizeOf r), ap length (given-any mask 0 r (neither _ _ f .0))))
+module _ (r : Record) (l : Lead) (e : l ≡ leadOf r) where
+  pub lead-given : l .given ≡ length (given r)
+  unfolding leadOf
+  lead-given = rw e
 
-  -- the segment's header, and behind it what the record gives
-  pub leader-stored : (type size : ℕ) (o : List ℕ) {x w : List ℕ} → type ≡ typeOf r → size ≡ sizeOf r
-      → x ≡ sets o 0 (type ∷ bytes 4 size) → w ≡ sets x 5 (given 0 r) → w ≡ sets o 0 (spelt mask r)
-  leader-stored type size o t s hx hw =
-      then (type ∷ bytes 4 size) (given 0 r) o 0 5 hx (ap suc (length-bytes 4 size)) hw
-      ∙ ap₂ (λ (k n : ℕ). sets o 0 (k ∷ (bytes 4 n ++ given 0 r))) t s
-      ∙ ap (λ (g : List ℕ). sets o 0 (typeOf r ∷ (bytes 4 (sizeOf r) ++ g))) (given-any 0 mask r (neither _ _ f .0))
-      ∙ ap (sets o 0) (sym (begins-spelt mask r f))
+  pub lead-size : sizeBy l ≡ sizeOf r
+  unfolding leadOf sizeOf
+  lead-size = rw e
+
+  pub leader-stored : (size : ℕ) (o : List ℕ) {x w : List ℕ} → size ≡ sizeBy l
+      → x ≡ sets o 0 (l .«segment_type» ∷ bytes 4 size) → w ≡ sets x 5 (given r) → w ≡ sets o 0 (begun r)
+  unfolding leadOf begun
+  leader-stored size o s hx hw =
+      then (l .«segment_type» ∷ bytes 4 size) (given r) o 0 5 hx (ap suc (length-bytes 4 size)) hw
+      ∙ ap₂ (λ (q : Lead) (n : ℕ). sets o 0 (q .«segment_type» ∷ (bytes 4 n ++ given r))) e (s ∙ lead-size)
+
+-- ---- what a record adds, by its kind
+
+module _ (leader : List ℕ) (kind : ℕ) (b : List ℕ) where
+  -- one that begins a segment
+  pub leader-spelt : (kind ≡ 4 → ⊥) → (kind ≡ 6 → ⊥) → begun (recordIn kind b) ≡ spelt (leading leader) (recordIn kind b)
+  unfolding spelt
+  leader-spelt t p = rw (ne-eqb kind 4 t, ne-eqb kind 6 p)
+
+  -- a target its announced fields
+  pub target-spelt : kind ≡ 4 → (mask : ℕ) → mask ≡ be 8 leader → announcedFields mask 32 targetWidths b ≡ spelt (leading leader) (recordIn kind b)
+  unfolding spelt givenBehind
+  target-spelt e mask m = rw (m, e)
+
+  -- a piece as many bytes as it counts
+  pub piece-spelt : kind ≡ 6 → take (getD b 0 0) (drop 1 b) ≡ spelt (leading leader) (recordIn kind b)
+  unfolding spelt givenBehind
+  piece-spelt e = rw e
+
+  -- how long the body is, and what these give
+  module _ (size : length b ≡ bodyLength kind) where
+    pub target-long : kind ≡ 4 → length b ≡ 44
+    unfolding bodyLength
+    target-long e = size ∙ ap bodyLength e
+
+    pub target-length : kind ≡ 4 → (mask : ℕ) → mask ≡ be 8 leader → announcedLength mask 32 targetWidths ≡ length (spelt (leading leader) (recordIn kind b))
+    unfolding total
+    target-length e mask m = omega (arith, length-announced mask 32 targetWidths b (omega (arith, target-long e)), ap length (target-spelt e mask m))
+
+    pub piece-long : kind ≡ 6 → length b ≡ 33
+    unfolding bodyLength
+    piece-long e = size ∙ ap bodyLength e
+
+    pub piece-length : kind ≡ 6 → getD b 0 0 ≤ 32 → getD b 0 0 ≡ length (spelt (leading leader) (recordIn kind b))
+    piece-length e h =
+        let n = piece-long e in
+        omega (arith, length-take-le (getD b 0 0) (drop 1 b) (rw length-drop (omega arith)), ap length (piece-spelt e))

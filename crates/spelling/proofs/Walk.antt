@@ -1,160 +1,176 @@
--- The walks over the records of a sheet: the record at a place, as the code cuts it out, and what is left behind it.
+-- The walk that stores the packet: what is left to spell, stored from a place on, gives the packet.
 -- Assumes nothing.
-use mathlib.Core.Path.{_≡_, refl, sym, ap, subst, _∙_}
-use mathlib.Core.Bool.{Bool, true, false, cond, true≢false}
+use mathlib.Core.Path.{_≡_, refl, sym, ap, _∙_}
+use mathlib.Core.Bool.{true, false, true≢false}
 use mathlib.Core.List.{List, [], _∷_, _++_}
-use Prim.Native.Nat.{ℕ, _+_, _-_, _≤_, _<_}
+use Prim.Native.Nat.{ℕ, _+_, _-_, _≤_}
 use native.Mathlib.Omega.{arith}
+use borrow.Author.Tests.{eqb-false}
+use lib.Dec.{lit≤}
 use lib.ListN.{length, getD, take, drop, length-append}
 use lib.Seq.{sets}
 use borrow.Rule.Slice.PartMut.{midOf, putMid}
-use Rattle.octets.specs.Octets.{bytes}
-use Rattle.octets.proofs.Parts.{filled-next, filled-length, part-is, length-part}
+use Rattle.octets.proofs.Laws.{then}
+use Rattle.octets.proofs.Parts.{filled-next, filled-length}
 use Rattle.format.specs.Sheet.{Record, bodyLength}
-use Rattle.format.specs.Writer.{Listed, listed, Due, isFollower, calledFor, isComplete, typeOf}
-use Rattle.format.proofs.Records.{AllFormed}
+use Rattle.format.specs.Writer.{Listed, listed, due, calledFor, isFollower, isComplete, givenBehind, spell}
+use Rattle.format.proofs.Records.{Formed, AllFormed}
 use Rattle.format.proofs.Rows.{neither}
-use Rattle.format.proofs.Listing.{listed-formed, listed-more, listed-end, whole-kind, whole-fits, whole-rest}
-use Rattle.spelling.specs.Spelling.{sizeOf, spelt, maskBehind, speltAll}
-use Rattle.spelling.proofs.Given.{given-any}
-use Rattle.spelling.proofs.Regrouped.{sizes, First, target, piece, begins, first, Single, single-called, is-piece, follower-behind, begins-spelt, spelt-length}
+use Rattle.format.proofs.Listing.{listed-formed}
+use Rattle.sheet_walk.specs.Shape.{Shaped}
+use Rattle.sheet_walk.proofs.Places.{cutAt, WholeAt}
+use Rattle.spelling.specs.Spelling.{spelt, leaderBehind, speltAll, recordIn, leading, Spellable}
+use Rattle.spelling.proofs.Followers.{dueOf, First, follows, begins, first}
+use Rattle.spelling.proofs.Regrouped.{sizes, told}
+use Rattle.spelling.proofs.Surveyed.{headed, complete-behind, spell-is}
 
--- ---- the record at a place
+-- the record from one place to another that began the segment
+abbrev pub led : List ℕ → ℕ → ℕ → ℕ → Record
+led x from to kind = recordIn kind (take (to - from) (drop from x))
 
--- its body is cut out as a part of the sheet
-abbrev pub cutAt : List ℕ → ℕ → ℕ → Record
-cutAt x at n = record { kind = getD x at 0; body = take (at + 1 + n - (at + 1)) (drop (at + 1) x) }
+pub record Leader (x : List ℕ) (from to kind : ℕ) : Type 0 where
+  pub within : from ≤ to
+  pub fits : to ≤ length x
+  pub formed : Formed (led x from to kind)
 
--- what is known of it where the records from there on are whole
-pub record Cut (x : List ℕ) (at n : ℕ) : Type 0 where
-  pub fits : at + 1 + n ≤ length x
-  pub sized : length (cutAt x at n .body) ≡ bodyLength (getD x at 0)
-  pub some : 1 ≤ length (cutAt x at n .body)
-  pub whole : listed (drop (at + 1 + n) x) .whole ≡ true
-  pub records-are : listed (drop at x) .records ≡ cutAt x at n ∷ listed (drop (at + 1 + n) x) .records
+-- what is left to spell from a place on
+abbrev pub leftAt : List ℕ → Record → ℕ → List ℕ
+leftAt x leader at = speltAll leader (listed (drop at x) .records)
 
-pub cut : (x : List ℕ) (at n : ℕ) → at < length x → n ≡ bodyLength (getD x at 0) → listed (drop at x) .whole ≡ true → Cut x at n
-cut x at n h e w =
-    let p = whole-kind x at n h e w in
-    let f = whole-fits x at n h e w in
-    let l : length (cutAt x at n .body) ≡ n = length-part x (at + 1) n f in
-    record {
-      fits = f;
-      sized = l ∙ e;
-      some = omega (arith, l, p);
-      whole = whole-rest x at n h e w;
-      records-are =
-          ap (λ (y : Listed). y .records) (listed-more x at h n e p f)
-          ∙ ap (λ (b : List ℕ). record { kind = getD x at 0; body = b } ∷ listed (drop (at + 1 + n) x) .records) (sym (part-is x (at + 1) n));
-    }
+-- behind the header
+abbrev pub segments : List ℕ → List ℕ
+segments x = leftAt x (cutAt x 0 1 33) 33
 
--- ---- the sizes that are left
-
--- a record's own, and those behind it
-pub sizes-next : (x : List ℕ) (at n : ℕ) → Cut x at n
-    → sizes (listed (drop at x) .records) ≡ cond (isFollower (cutAt x at n)) 0 (sizeOf (cutAt x at n)) + sizes (listed (drop (at + 1 + n) x) .records)
-unfolding sizes
-sizes-next x at n c = ap sizes (c .records-are)
-
--- none at the end
-pub sizes-end : (x : List ℕ) (at : ℕ) → length x ≤ at → sizes (listed (drop at x) .records) ≡ 0
-unfolding sizes
-sizes-end x at h = ap (λ (l : Listed). sizes (l .records)) (listed-end x at h)
-
--- ---- the bytes that are left
-
--- a record spelt by the mask for those behind it: a dwell's goes by its own, and a target's or a piece's is the same
-behind-spelt : (mask : ℕ) (r : Record) → spelt (maskBehind mask r) r ≡ spelt mask r
-behind-spelt mask r = go (isFollower r) refl
-  where
-    go : (f : Bool) → isFollower r ≡ f → spelt (maskBehind mask r) r ≡ spelt mask r
-    go true f = ap (λ (m : ℕ). spelt m r) (follower-behind mask r f)
-    go false f =
-        begins-spelt (maskBehind mask r) r f
-        ∙ ap (λ (g : List ℕ). typeOf r ∷ (bytes 4 (sizeOf r) ++ g)) (given-any (maskBehind mask r) mask r (neither _ _ f .0))
-        ∙ sym (begins-spelt mask r f)
-
--- what is due behind a record, its count where it is a piece, and that the size of its segment is no more than what is left
-record Next (mask : ℕ) (r : Record) (rs : List Record) : Type 0 where
-  pub due : Due
-  pub single : Single due
-  pub complete : isComplete due rs ≡ true
-  pub count : r .kind ≡ 6 → getD (r .body) 0 0 ≤ 32
-  pub size : cond (isFollower r) 0 (sizeOf r) ≤ length (speltAll mask (r ∷ rs))
-
-next : (mask : ℕ) (due : Due) (r : Record) (rs : List Record) → Single due → AllFormed (r ∷ rs) → isComplete due (r ∷ rs) ≡ true → Next mask r rs
-unfolding sizes
-next mask due r rs s f c = go (first due r rs c)
-  where
-    size : cond (isFollower r) 0 (sizeOf r) ≤ length (speltAll mask (r ∷ rs))
-    size = omega (arith, spelt-length mask due (r ∷ rs) s f c)
-
-    go : First due r rs → Next mask r rs
-    go (target t k c) = record { due = _; single = λ _. refl; complete = c; count = λ e. absurd (omega (arith, k, e)); size = size }
-    go (piece t b k h c) = record { due = record { targets = 0; bytes = due .bytes - 32 }; single = λ p. absurd (omega (arith, p)); complete = c; count = λ e. omega (arith, h); size = size }
-    go (begins t b k c) = record { due = calledFor r; single = single-called r; complete = c; count = λ e. absurd (true≢false (sym (is-piece r e) ∙ k)); size = size }
-
--- what the walk that stores keeps: what is left to spell, stored from here on, gives the packet's segments
-pub record Left (x o₀ o : List ℕ) (at to mask : ℕ) : Type 0 where
-  pub due : Due
-  pub single : Single due
-  pub whole : listed (drop at x) .whole ≡ true
-  pub complete : isComplete due (listed (drop at x) .records) ≡ true
+-- what the walk keeps; o₀ has the header already
+pub record Left (x o₀ o : List ℕ) (at to from end : ℕ) : Type 0 where
+  pub kind : ℕ
+  pub left : ℕ
+  pub leader : Leader x from end kind
+  pub complete : isComplete (dueOf (led x from end kind) left) (listed (drop at x) .records) ≡ true
   pub same : length o ≡ length o₀
-  pub short : length (speltAll mask (listed (drop at x) .records)) ≤ 65536
-  pub room : to + length (speltAll mask (listed (drop at x) .records)) ≤ length o₀
-  pub rest : sets o to (speltAll mask (listed (drop at x) .records)) ≡ sets o₀ 0 (speltAll 0 (listed x .records))
+  pub short : length (leftAt x (led x from end kind) at) ≤ 65536
+  pub room : to + length (leftAt x (led x from end kind) at) ≤ length o₀
+  pub rest : sets o to (leftAt x (led x from end kind) at) ≡ sets o₀ 32 (segments x)
 
--- a turn of it
-module _ (x o₀ o : List ℕ) (at to mask n : ℕ) (h : at < length x) (e : n ≡ bodyLength (getD x at 0)) (l : Left x o₀ o at to mask) where
-  -- the record, and the records behind it
-  abbrev here : Record
-  here = cutAt x at n
+-- at the front
+module _ (x : List ℕ) (s : Shaped x) where
+  pub header : WholeAt x 0 1 33
+  header = headed x (s .0)
 
-  abbrev others : List Record
-  others = listed (drop (at + 1 + n) x) .records
+  complete-rest : isComplete (due 0 0) (listed (drop 33 x) .records) ≡ true
+  complete-rest = sym (complete-behind x 33 header) ∙ s .1
 
-  pub taken : Cut x at n
-  taken = cut x at n h e (l .whole)
+  body-length : length (take 32 (drop 1 x)) ≡ 32
+  unfolding bodyLength
+  body-length = header .formed .length-is
 
-  following : Next mask here others
-  following =
-      next mask (l .due) here others (l .single) (subst AllFormed (taken .records-are) (listed-formed (drop at x)))
-      (sym (ap (isComplete (l .due)) (taken .records-are)) ∙ l .complete)
+  pub spell-length-is : length (spell x) ≡ 32 + length (segments x)
+  spell-length-is = ap length (spell-is x 33 header complete-rest) ∙ length-append (take 32 (drop 1 x)) (segments x) ∙ omega (arith, body-length)
 
-  -- what is left is the record's bytes and the others'
-  left-is : (m : ℕ) → m ≡ maskBehind mask here → speltAll mask (listed (drop at x) .records) ≡ spelt m here ++ speltAll m others
-  unfolding speltAll
-  left-is m i =
-      ap (speltAll mask) (taken .records-are)
-      ∙ ap (λ (y : List ℕ). y ++ speltAll (maskBehind mask here) others) (sym (behind-spelt mask here))
-      ∙ sym (ap (λ (k : ℕ). spelt k here ++ speltAll k others) i)
-
-  pub count-is : getD x at 0 ≡ 6 → getD (here .body) 0 0 ≤ 32
-  count-is = following .count
-
-  pub size-short : cond (isFollower here) 0 (sizeOf here) ≤ 65536
-  size-short = omega (arith, following .size, ap length (ap (speltAll mask) (taken .records-are)), l .short)
-
-  pub has-room : (m : ℕ) → m ≡ maskBehind mask here → to + (length (spelt m here) + length (speltAll m others)) ≤ length o₀
-  has-room m i = omega (arith, ap length (left-is m i), length-append (spelt m here) (speltAll m others), l .room)
-
-  -- once it is stored
-  pub stored : (m k : ℕ) {p : List ℕ} → m ≡ maskBehind mask here → k ≡ length (spelt m here) → p ≡ sets (midOf to (length o - to) o) 0 (spelt m here)
-      → Left x o₀ (putMid to (length o - to) o p) (at + 1 + n) (to + k) m
-  stored m k i j q =
+  pub all-left : (o : List ℕ) → length (spell x) ≤ 65536 → length (spell x) ≤ length o → Left x o o 33 32 1 33
+  unfolding calledFor
+  all-left o short room =
       record {
-        due = following .due;
-        single = following .single;
-        whole = taken .whole;
-        complete = following .complete;
-        same = filled-length o (spelt m here) to q ∙ l .same;
-        short = omega (arith, ap length (left-is m i), length-append (spelt m here) (speltAll m others), l .short);
-        room = omega (arith, has-room m i, j);
-        rest = filled-next o (speltAll m others) (spelt m here) to k j q ∙ sym (ap (sets o to) (left-is m i)) ∙ l .rest;
+        kind = 1;
+        left = 0;
+        leader = record { within = lit≤ tt; fits = header .fits; formed = header .formed };
+        complete = complete-rest;
+        same = refl;
+        short = omega (arith, spell-length-is);
+        room = omega (arith, spell-length-is);
+        rest = refl;
       }
 
--- at the end nothing is left
-pub none-left : (mask : ℕ) (x : List ℕ) (at : ℕ) → length x ≤ at → speltAll mask (listed (drop at x) .records) ≡ []
+  -- the header copied, and the segments behind it
+  pub packet-stored : (o : List ℕ) {p w : List ℕ} → p ≡ sets o 0 (take 32 (drop 1 x)) → w ≡ sets p 32 (segments x) → w ≡ sets o 0 (spell x)
+  packet-stored o hp hw = then (take 32 (drop 1 x)) (segments x) o 0 32 hp body-length hw ∙ ap (sets o 0) (sym (spell-is x 33 header complete-rest))
+
+-- a turn of it
+module _ (x o₀ o : List ℕ) (at to from end : ℕ) (l : Left x o₀ o at to from end) (k next : ℕ) (w : WholeAt x at k next) where
+  -- the record, its leader, and the records behind it
+  abbrev here : Record
+  here = cutAt x at k next
+
+  abbrev leads : Record
+  leads = led x from end (l .kind)
+
+  abbrev others : List Record
+  others = listed (drop next x) .records
+
+  -- the bytes that it adds
+  abbrev pub adds : List ℕ
+  adds = spelt (leading (leads .body)) here
+
+  records-are : listed (drop at x) .records ≡ here ∷ others
+  records-are = ap (λ (y : Listed). y .records) (w .listed-is)
+
+  formed-all : AllFormed (here ∷ others)
+  formed-all = (w .formed, listed-formed (drop next x))
+
+  complete-all : isComplete (dueOf leads (l .left)) (here ∷ others) ≡ true
+  complete-all = sym (ap (isComplete (dueOf leads (l .left))) records-are) ∙ l .complete
+
+  -- what is left is the record's bytes and the others'
+  left-is : leftAt x leads at ≡ adds ++ speltAll (leaderBehind leads here) others
+  unfolding speltAll spelt givenBehind
+  left-is = ap (speltAll leads) records-are
+
+  pub has-room : to + (length adds + length (speltAll (leaderBehind leads here) others)) ≤ length o₀
+  has-room = omega (arith, ap length left-is, length-append adds (speltAll (leaderBehind leads here) others), l .room)
+
+  -- what is certain of it
+  pub spellable : Spellable (leads .body) here
+  unfolding bodyLength sizes
+  spellable =
+      let f = behind (first leads (l .left) here others (w .formed) complete-all) in
+      let total = told leads (l .left) (here ∷ others) formed-all complete-all .length-is in (
+        w .formed .length-is,
+        omega (arith, w .formed .kind, w .formed .length-is),
+        omega (arith, total, ap (λ (y : List Record). length (speltAll leads y)) records-are, l .short),
+        λ e. omega (arith, l .leader .formed .length-is ∙ ap bodyLength (f .0 e)),
+        f .1,
+      )
+    where
+      behind : First leads (l .left) here others → (k ≡ 4 → leads .kind ≡ 3) × (k ≡ 6 → getD (here .body) 0 0 ≤ 32)
+      behind (follows h g c) = (g .led, g .count)
+      behind (begins z g c) =
+          let n = neither _ _ g in
+          (λ e. absurd (eqb-false k 4 (n .0) e), λ e. absurd (eqb-false k 6 (n .1) e))
+
+  -- once it is stored
+  module _ (n : ℕ) {p : List ℕ} (j : n ≡ length adds) (q : p ≡ sets (midOf to (length o - to) o) 0 adds) where
+    stored : (a e m rest : ℕ) → Leader x a e m → leaderBehind leads here ≡ led x a e m → isComplete (dueOf (led x a e m) rest) others ≡ true
+        → Left x o₀ (putMid to (length o - to) o p) next (to + n) a e
+    stored a e m rest h i c =
+        let y = speltAll (led x a e m) others in
+        let is : leftAt x leads at ≡ adds ++ y = left-is ∙ ap (λ (r : Record). adds ++ speltAll r others) i in
+        let both = length-append adds y in
+        record {
+          kind = m;
+          left = rest;
+          leader = h;
+          complete = c;
+          same = filled-length o adds to q ∙ l .same;
+          short = omega (arith, ap length is, both, l .short);
+          room = omega (arith, ap length is, both, l .room, j);
+          rest = filled-next o y adds to n j q ∙ sym (ap (sets o to) is) ∙ l .rest;
+        }
+
+    pub stored-follower : isFollower here ≡ true → Left x o₀ (putMid to (length o - to) o p) next (to + n) from end
+    stored-follower f = go (first leads (l .left) here others (w .formed) complete-all)
+      where
+        go : First leads (l .left) here others → Left x o₀ (putMid to (length o - to) o p) next (to + n) from end
+        go (follows h g c) = stored from end (l .kind) _ (l .leader) (rw f) c
+        go (begins z g c) = absurd (true≢false (sym f ∙ g))
+
+    pub stored-leader : isFollower here ≡ false → Left x o₀ (putMid to (length o - to) o p) next (to + n) (at + 1) next
+    stored-leader f = go (first leads (l .left) here others (w .formed) complete-all)
+      where
+        go : First leads (l .left) here others → Left x o₀ (putMid to (length o - to) o p) next (to + n) (at + 1) next
+        go (follows h g c) = absurd (true≢false (sym (g .follows) ∙ f))
+        go (begins z g c) = stored (at + 1) next k _ (record { within = omega (arith, w .within); fits = w .fits; formed = w .formed }) (rw f) c
+
+-- where no record is left
+pub none-left : (x o₀ o : List ℕ) (at to from end : ℕ) → Left x o₀ o at to from end → listed (drop at x) .records ≡ [] → o ≡ sets o₀ 32 (segments x)
 unfolding speltAll
-none-left mask x at h = ap (λ (l : Listed). speltAll mask (l .records)) (listed-end x at h)
+none-left x o₀ o at to from end l e = sym (ap (λ (rs : List Record). sets o to (speltAll (led x from end (l .kind)) rs)) e) ∙ l .rest

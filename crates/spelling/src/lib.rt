@@ -1,202 +1,226 @@
 // The packet that a sheet spells: the header, then each segment with S2 worked out and only announced fields.
 ghost use mathlib.Core.Path.{_≡_};
-ghost use mathlib.Core.Bool.{true, cond};
-ghost use mathlib.Core.List.{List, _∷_};
-ghost use Prim.Native.Nat.{ℕ, _≤_, min};
-ghost use lib.ListN.{length, getD, take};
+ghost use mathlib.Core.Bool.{cond};
+ghost use mathlib.Core.List.{_∷_};
+ghost use Prim.Native.Nat.{_≤_};
+ghost use lib.ListN.{length, getD, take, drop};
 ghost use lib.Seq.{sets};
-ghost use Rattle.octets.specs.Octets.{be, bytes};
+ghost use Rattle.octets.specs.Octets.{bytes};
 ghost use Rattle.format.specs.Sheet.{bodyLength};
-ghost use Rattle.format.specs.Writer.{listed, isFollower, isComplete, typeOf, given, spell as spellSheet};
-ghost use Rattle.shape.specs.Shape.{Shaped};
-ghost use Rattle.spelling.specs.Spelling.{sizeOf, spelt, maskBehind, speltAll};
+ghost use Rattle.format.specs.Writer.{listed, due, given as givenOf, spell as spellSheet};
+ghost use Rattle.sheet_walk.specs.Shape.{placeAt, isRest, Shaped};
+ghost use Rattle.spelling.specs.declared.Survey.the-variants.{Unlisted, Incomplete};
+ghost use Rattle.spelling.specs.Spelling.{begun, spelt, recordIn, leading, Begins, Spellable, headerEnd, surveyed, capped as cappedAt, counted};
+use sheet_walk::Place;
 
-// How many bytes of its body a record gives as they are, where no field is left out by a mask: not the length in a text's, nor the
-// mark of J26, and nothing of an opaque segment's type and length.
-fn copied_length(kind: u8) -> usize
-    requires { ⌜ (kind ≡ 3 → ⊥) × (kind ≡ 4 → ⊥) × (kind ≡ 6 → ⊥) ⌝ }
-    ensures { λ r. ⌜ r ≤ 87 ⌝ }
-    ensures { λ r. ⌜ ((b : List ℕ) → length b ≡ bodyLength kind → (r ≤ length b) × (given 0 (record { kind = kind; body = b }) ≡ take r b)) ⌝ }
-{
-    match kind {
-        5 => format::TextRecord::LEN - 4,
-        7 => 0,
-        8 => format::JobRecord::LEN - 1,
-        _ => shape::body_length(kind),
-    }
+// What rows 17 and 18 say of a sheet and, where neither applies, how long its packet is.
+pub enum Survey {
+    // Row 17 applies.
+    Unlisted,
+    // Row 17 does not, and row 18 does.
+    Incomplete,
+    // The packet has so many bytes, of which 65,537 stand for any more.
+    Spells(usize),
 }
 
-// The size S2 of the segment that a record begins.
-fn segment_size(kind: u8, b: &[u8]) -> usize
-    requires { ⌜ (kind ≡ 4 → ⊥) × (kind ≡ 6 → ⊥) × (length (now b) ≡ bodyLength kind) ⌝ }
-    ensures { λ r. ⌜ (r ≡ sizeOf (record { kind = kind; body = now (b .entry) })) × (r ≤ 4294967463) ⌝ }
-{
-    if kind == format::DwellRecord::KIND {
-        let mask = octets::get_u64(b, 0);
-        let targets = shape::called_targets(kind, b);
-        return mask::dwell_size(mask, targets);
-    }
-    let own = copied_length(kind);
-    let called = shape::called_bytes(kind, b);
-    5 + own + called as usize
+// What a record leaves of what is counted, or that it stands where it may not.
+enum Counted {
+    // The kind that is due behind the record, how much of it, and the bytes spelt so far.
+    Then(u8, usize, usize),
+    Misplaced,
 }
 
-// The size of the segment that a record begins, and nothing for a follower, which is counted in the size of its segment.
-fn added_size(kind: u8, b: &[u8]) -> usize
-    requires { ⌜ length (now b) ≡ bodyLength kind ⌝ }
-    ensures { λ r. ⌜ (r ≡ cond (isFollower (record { kind = kind; body = now (b .entry) })) 0 (sizeOf (record { kind = kind; body = now (b .entry) }))) × (r ≤ 4294967463) ⌝ }
+// No packet is longer than 65,536 bytes; one byte more stands for any length above that, so that sums stay small.
+fn capped(n: usize) -> usize
+    ensures { λ r. ⌜ r ≡ cappedAt n ⌝ }
 {
-    if shape::is_follower(kind) {
-        0
+    if format::LONGEST_PACKET < n {
+        format::LONGEST_PACKET + 1
     } else {
-        segment_size(kind, b)
+        n
     }
 }
 
-// The length of the packet that x spells, or 65,537 where it is longer than a packet can be.
-pub fn spelt_length(x: &[u8]) -> usize
-    requires { ⌜ Shaped (now x) ⌝ }
-    ensures { λ n. ⌜ n ≡ min 65537 (length (spellSheet (now (x .entry)))) ⌝ }
+// A record where so much of a kind is due, and so many bytes are spelt.
+fn count(follower: u8, left: usize, sum: usize, kind: u8, b: &[u8]) -> Counted
+    requires { ⌜ (length (now b) ≡ bodyLength kind) × (1 ≤ length (now b)) × (sum ≤ 65537) ⌝ }
+    ensures { λ r. ⌜ r ≡ counted (due follower left) sum (recordIn kind (now (b .entry))) ⌝ }
 {
-    let mut at = 1 + format::HeaderRecord::LEN;
-    let mut sum = format::HeaderRecord::LEN;
-    while at < x.len() {
-        let kind = x[at];
-        let n = shape::body_length(kind);
-        let from = at + 1;
-        let to = from + n;
-        sum += added_size(kind, &x[from..to]);
-        if 65536 < sum {
-            return 65537;
+    if 0 < left {
+        if kind != follower {
+            return Counted::Misplaced;
         }
-        at = to;
+        let n = sheet_walk::share(follower, left);
+        if sheet_walk::carried(kind, b) != n {
+            return Counted::Misplaced;
+        }
+        let rest = left - n;
+        return Counted::Then(follower, rest, sum);
     }
-    sum
+    if sheet_walk::is_follower(kind) {
+        return Counted::Misplaced;
+    }
+    let l = sheet_walk::lead_of(kind, b);
+    let n = capped(sum + sheet_walk::segment_size(l));
+    Counted::Then(l.follower, l.left, n)
 }
 
-// The type of the segment that a record begins.
-fn type_of(kind: u8, b: &[u8]) -> u8
-    requires { ⌜ 1 ≤ length (now b) ⌝ }
-    ensures { λ r. ⌜ r ≡ typeOf (record { kind = kind; body = now (b .entry) }) ⌝ }
+// A sheet to which row 18 applies, unless row 17 does from a place on.
+fn incomplete(x: &[u8], at: usize) -> Survey
+    ensures { λ r. ⌜ r ≡ cond (isRest (listed (drop at (now (x .entry))))) Incomplete Unlisted ⌝ }
 {
-    match kind {
-        2 => 1,
-        3 => 2,
-        5 => 6,
-        8 => 5,
-        9 => 10,
-        10 => 13,
-        _ => b[0],
+    if sheet_walk::is_rest(x, at) {
+        Survey::Incomplete
+    } else {
+        Survey::Unlisted
+    }
+}
+
+// The place behind the header at the front of x, or 0 where none is there.
+fn header_end(x: &[u8]) -> usize
+    ensures { λ r. ⌜ r ≡ headerEnd (placeAt (now (x .entry)) 0) ⌝ }
+{
+    match sheet_walk::record_at(x, 0) {
+        Place::End => 0,
+        Place::Cut => 0,
+        Place::Whole(kind, end) => {
+            if kind == format::HeaderRecord::KIND {
+                return end;
+            }
+            0
+        }
+    }
+}
+
+// Rows 17 and 18 and the length of the packet, in one walk. A later fault of row 17 comes before an earlier one of row 18.
+pub fn survey_of(x: &[u8]) -> Survey
+    ensures { λ r. ⌜ r ≡ surveyed (now (x .entry)) ⌝ }
+{
+    let start = header_end(x);
+    if start == 0 {
+        return Survey::Unlisted;
+    }
+    let mut at = start;
+    let mut follower: u8 = 0;
+    let mut left = 0;
+    let mut sum = format::HeaderRecord::LEN;
+    loop {
+        match sheet_walk::record_at(x, at) {
+            Place::Cut => return Survey::Unlisted,
+            Place::End => return if left == 0 {
+                Survey::Spells(sum)
+            } else {
+                Survey::Incomplete
+            },
+            Place::Whole(kind, end) => {
+                if kind == format::HeaderRecord::KIND {
+                    return Survey::Unlisted;
+                }
+                let from = at + 1;
+                match count(follower, left, sum, kind, &x[from..end]) {
+                    Counted::Misplaced => return incomplete(x, end),
+                    Counted::Then(f, l, s) => {
+                        follower = f;
+                        left = l;
+                        sum = s;
+                        at = end;
+                    }
+                }
+            }
+        }
     }
 }
 
 // A segment's header.
-fn put_head(kind: u8, size: u32, o: &mut [u8])
+fn put_head(segment_type: u8, size: u32, o: &mut [u8])
     requires { ⌜ 5 ≤ length (now o) ⌝ }
-    ensures { λ _. ⌜ now (o .exit) ≡ sets (now (o .entry)) 0 (kind ∷ bytes 4 size) ⌝ }
+    ensures { λ _. ⌜ now (o .exit) ≡ sets (now (o .entry)) 0 («segment_type» ∷ bytes 4 size) ⌝ }
 {
-    o[0] = kind;
+    o[0] = segment_type;
     octets::put_u32(o, 1, size);
 }
 
-// The bytes that a record gives which begins a segment; the mask is that of a dwell's record. It answers how many.
-fn put_given(kind: u8, b: &[u8], mask: u64, o: &mut [u8]) -> usize
-    requires { ⌜ (kind ≡ 4 → ⊥) × (kind ≡ 6 → ⊥) × (length (now b) ≡ bodyLength kind) × (kind ≡ 3 → mask ≡ be 8 (now b)) × (length (given 0 (record { kind = kind; body = now b })) ≤ length (now o)) ⌝ }
-    ensures { λ n. ⌜ n ≡ length (given 0 (record { kind = kind; body = now (b .entry) })) ⌝ }
-    ensures { λ _. ⌜ now (o .exit) ≡ sets (now (o .entry)) 0 (given 0 (record { kind = kind; body = now (b .entry) })) ⌝ }
+// The bytes that a record gives which begins a segment, so many.
+fn put_given(kind: u8, b: &[u8], n: usize, o: &mut [u8])
+    requires { ⌜ (length (now b) ≡ bodyLength kind) × (n ≡ length (givenOf (recordIn kind (now b)))) × (n ≤ length (now o)) ⌝ }
+    ensures { λ _. ⌜ now (o .exit) ≡ sets (now (o .entry)) 0 (givenOf (recordIn kind (now (b .entry)))) ⌝ }
 {
     if kind == format::DwellRecord::KIND {
         copies::copy8(b, 0, o, 0);
-        return announced::dwell_fields(b, 8, mask, o, 8);
+        pack::dwell_fields(b, 8, octets::get_u64(b, 0), o, 8);
+        return;
     }
-    let n = copied_length(kind);
     copies::copy_all(&b[..n], o, 0);
-    n
+}
+
+// A record that begins a segment: the segment's header, and what the record gives. It answers how many bytes.
+fn put_leader(kind: u8, b: &[u8], o: &mut [u8]) -> usize
+    requires { ⌜ (Begins (recordIn kind (now b))) × (length (begun (recordIn kind (now b))) ≤ length (now o)) ⌝ }
+    ensures { λ n. ⌜ n ≡ length (begun (recordIn kind (now (b .entry)))) ⌝ }
+    ensures { λ _. ⌜ now (o .exit) ≡ sets (now (o .entry)) 0 (begun (recordIn kind (now (b .entry)))) ⌝ }
+{
+    let l = sheet_walk::lead_of(kind, b);
+    let size = sheet_walk::segment_size(l);
+    put_head(l.segment_type, size as u32, o);
+    let n = l.given;
+    put_given(kind, b, n, &mut o[5..]);
+    5 + n
 }
 
 // The bytes of a piece. It answers how many.
 fn put_piece(b: &[u8], o: &mut [u8]) -> usize
-    requires { ⌜ (length (now b) ≡ 33) × (getD (now b) 0 0 ≤ 32) × (length (given 0 (record { kind = 6; body = now b })) ≤ length (now o)) ⌝ }
-    ensures { λ n. ⌜ n ≡ length (given 0 (record { kind = 6; body = now (b .entry) })) ⌝ }
-    ensures { λ _. ⌜ now (o .exit) ≡ sets (now (o .entry)) 0 (given 0 (record { kind = 6; body = now (b .entry) })) ⌝ }
+    requires { ⌜ (length (now b) ≡ 33) × (getD (now b) 0 0 ≤ 32) × (getD (now b) 0 0 ≤ length (now o)) ⌝ }
+    ensures { λ n. ⌜ n ≡ getD (now (b .entry)) 0 0 ⌝ }
+    ensures { λ _. ⌜ now (o .exit) ≡ sets (now (o .entry)) 0 (take (getD (now (b .entry)) 0 0) (drop 1 (now (b .entry)))) ⌝ }
 {
     let count = b[0] as usize;
-    if count == 32 {
-        copies::copy32(b, 1, o, 0);
-        return 32;
+    if count == format::PieceRecord::FULL {
+        copies::copy32(b, format::PieceRecord::BYTES, o, 0);
+        return format::PieceRecord::FULL;
     }
-    let to = 1 + count;
-    copies::copy_all(&b[1..to], o, 0);
+    let to = format::PieceRecord::BYTES + count;
+    copies::copy_all(&b[format::PieceRecord::BYTES..to], o, 0);
     count
 }
 
-// A record that begins a segment: the segment's header, and what the record gives. It answers how many bytes.
-fn put_leader(kind: u8, b: &[u8], mask: u64, o: &mut [u8]) -> usize
-    requires { ⌜ (kind ≡ 4 → ⊥) × (kind ≡ 6 → ⊥) × (length (now b) ≡ bodyLength kind) × (1 ≤ length (now b)) × (kind ≡ 3 → mask ≡ be 8 (now b)) × (sizeOf (record { kind = kind; body = now b }) ≤ 65536) × (length (spelt mask (record { kind = kind; body = now b })) ≤ length (now o)) ⌝ }
-    ensures { λ n. ⌜ n ≡ length (spelt mask (record { kind = kind; body = now (b .entry) })) ⌝ }
-    ensures { λ _. ⌜ now (o .exit) ≡ sets (now (o .entry)) 0 (spelt mask (record { kind = kind; body = now (b .entry) })) ⌝ }
-{
-    let size = segment_size(kind, b);
-    let t = type_of(kind, b);
-    put_head(t, size as u32, o);
-    let n = put_given(kind, b, mask, &mut o[5..]);
-    5 + n
-}
-
-// What a record adds to the packet. It answers how many bytes.
-fn put_record(kind: u8, b: &[u8], mask: u64, o: &mut [u8]) -> usize
-    requires { ⌜ (length (now b) ≡ bodyLength kind) × (1 ≤ length (now b)) × (kind ≡ 3 → mask ≡ be 8 (now b)) × (kind ≡ 6 → getD (now b) 0 0 ≤ 32) × (cond (isFollower (record { kind = kind; body = now b })) 0 (sizeOf (record { kind = kind; body = now b })) ≤ 65536) × (length (spelt mask (record { kind = kind; body = now b })) ≤ length (now o)) ⌝ }
-    ensures { λ n. ⌜ n ≡ length (spelt mask (record { kind = kind; body = now (b .entry) })) ⌝ }
-    ensures { λ _. ⌜ now (o .exit) ≡ sets (now (o .entry)) 0 (spelt mask (record { kind = kind; body = now (b .entry) })) ⌝ }
+// What a record adds to the packet: a follower by the body of the one that begins its segment. It answers how many bytes.
+fn put_record(kind: u8, leader: &[u8], b: &[u8], o: &mut [u8]) -> usize
+    requires { ⌜ (Spellable (now leader) (recordIn kind (now b))) × (length (spelt (leading (now leader)) (recordIn kind (now b))) ≤ length (now o)) ⌝ }
+    ensures { λ n. ⌜ n ≡ length (spelt (leading (now (leader .entry))) (recordIn kind (now (b .entry)))) ⌝ }
+    ensures { λ _. ⌜ now (o .exit) ≡ sets (now (o .entry)) 0 (spelt (leading (now (leader .entry))) (recordIn kind (now (b .entry)))) ⌝ }
 {
     if kind == format::TargetRecord::KIND {
-        return announced::target_fields(b, 0, mask, o, 0);
+        return pack::target_fields(b, 0, octets::get_u64(leader, 0), o, 0);
     }
     if kind == format::PieceRecord::KIND {
         return put_piece(b, o);
     }
-    put_leader(kind, b, mask, o)
+    put_leader(kind, b, o)
 }
 
-// The mask for a record and those behind it: a dwell's record brings its own, and a target or a piece keeps the one before it.
-fn mask_at(kind: u8, b: &[u8], mask: u64) -> u64
-    requires { ⌜ length (now b) ≡ bodyLength kind ⌝ }
-    ensures { λ r. ⌜ r ≡ maskBehind mask (record { kind = kind; body = now (b .entry) }) ⌝ }
-{
-    if kind == format::DwellRecord::KIND {
-        return octets::get_u64(b, 0);
-    }
-    if shape::is_follower(kind) { mask } else { 0 }
-}
-
-// The segments that the records of x spell, the sheet behind its header.
-fn spell_segments(x: &[u8], o: &mut [u8])
-    requires { ⌜ (listed (now x) .whole ≡ true) × (isComplete (record { targets = 0; bytes = 0 }) (listed (now x) .records) ≡ true) × (length (speltAll 0 (listed (now x) .records)) ≤ 65536) × (length (speltAll 0 (listed (now x) .records)) ≤ length (now o)) ⌝ }
-    ensures { λ _. ⌜ now (o .exit) ≡ sets (now (o .entry)) 0 (speltAll 0 (listed (now (x .entry)) .records)) ⌝ }
-{
-    let mut at = 0;
-    let mut to = 0;
-    let mut mask: u64 = 0;
-    while at < x.len() {
-        let kind = x[at];
-        let n = shape::body_length(kind);
-        let from = at + 1;
-        let end = from + n;
-        let b = &x[from..end];
-        mask = mask_at(kind, b, mask);
-        to += put_record(kind, b, mask, &mut o[to..]);
-        at = end;
-    }
-}
-
-// The packet that x spells, at the front of o.
+// The packet that x spells, at the front of o. The body of the record that begins a segment is handed on to those behind it.
 pub fn spell(x: &[u8], o: &mut [u8])
     requires { ⌜ (Shaped (now x)) × (length (spellSheet (now x)) ≤ 65536) × (length (spellSheet (now x)) ≤ length (now o)) ⌝ }
     ensures { λ _. ⌜ now (o .exit) ≡ sets (now (o .entry)) 0 (spellSheet (now (x .entry))) ⌝ }
 {
     copies::copy32(x, 1, o, 0);
-    spell_segments(
-        &x[1 + format::HeaderRecord::LEN..],
-        &mut o[format::HeaderRecord::LEN..],
-    );
+    let mut at = format::HeaderRecord::WHOLE;
+    let mut to = format::HeaderRecord::LEN;
+    let mut begins = 1;
+    let mut ends = format::HeaderRecord::WHOLE;
+    loop {
+        match sheet_walk::record_at(x, at) {
+            Place::End => return,
+            Place::Cut => return,
+            Place::Whole(kind, end) => {
+                let from = at + 1;
+                to += put_record(kind, &x[begins..ends], &x[from..end], &mut o[to..]);
+                if !sheet_walk::is_follower(kind) {
+                    begins = from;
+                    ends = end;
+                }
+                at = end;
+            }
+        }
+    }
 }

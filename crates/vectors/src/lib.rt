@@ -6,6 +6,7 @@ ghost use Prim.Native.Nat.{_+_, _*_, _/_, _≤_, _<_, min};
 ghost use lib.ListN.{length, drop};
 ghost use lib.Seq.{sets};
 ghost use Rattle.vectors.specs.Vectors.{isColon, isDigit, isNumber, digitValue, withDigit, spelt, hexFault, isHex, nibble, unhexed, hexDigit, hexed, faultText, unreadLine, vectorLine};
+use format::Answer;
 
 // What is wrong with a line.
 pub enum Fault {
@@ -179,7 +180,7 @@ pub fn put_name(o: &mut [u8], name: &[u8]) -> usize
 }
 
 // The line that answers a vector, at the front of o; answers its length.
-pub fn put_line(o: &mut [u8], name: &[u8], a: format::Answer, sheet: &[u8]) -> usize
+pub fn put_line(o: &mut [u8], name: &[u8], a: Answer, sheet: &[u8]) -> usize
     requires { ⌜ length (now name) + 2 * length (now sheet) + 90 ≤ length (now o) ⌝ }
     ensures { λ r. ⌜ (r ≡ length (vectorLine (now (name .entry)) a (now (sheet .entry)))) × (r ≤ length (now (o .exit))) ⌝ }
     ensures { λ _. ⌜ now (o .exit) ≡ sets (now (o .entry)) 0 (vectorLine (now (name .entry)) a (now (sheet .entry))) ⌝ }

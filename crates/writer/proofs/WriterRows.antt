@@ -3,7 +3,7 @@
 use Prim.Native.Nat.{ℕ, _≤_, _<_}
 use native.Mathlib.Omega.{arith}
 use mathlib.Core.Path.{_≡_, refl, sym, ap, ap₂, _∙_}
-use mathlib.Core.Bool.{Bool, true, false, not, _&&_, _||_, cond}
+use mathlib.Core.Bool.{Bool, true, false, not, _||_, cond}
 use mathlib.Core.List.{List, [], _∷_}
 use borrow.Author.Tests.{lt-ltb, le-ltb, le-leb, lt-leb}
 use lib.Dec.{ltb}
@@ -17,10 +17,11 @@ use Rattle.format.specs.declared.Answer.{Answer}
 use Rattle.format.specs.declared.Answer.the-variants.{Accepted, Refused}
 use Rattle.format.specs.Answer.{outcome, leftBy}
 use Rattle.format.specs.Rows.{row, firstRow}
-use Rattle.format.specs.Writer.{listed, isHeaded, isComplete, spell, readsBack, sheetRows, writerRows, writerAnswer, sheetAnswer, writingAnswer, write}
+use Rattle.format.specs.Writer.{listed, due, isComplete, spell, readsBack, sheetRows, writerRows, writerAnswer, sheetAnswer, writingAnswer, write}
 use Rattle.format.proofs.Rows.{orElse, first-append}
 use Rattle.format.proofs.Acceptance.{no-refusal, same-length}
-use Rattle.writer.specs.Placed.{placed}
+use Rattle.sheet_walk.specs.Shape.{isSheet, Shaped}
+use Rattle.writer.specs.Placed.{placed, Settled}
 use Rattle.writer.proofs.ReadingBack.{backAnswer}
 
 -- ---- rows 17 to 19
@@ -32,11 +33,11 @@ byRows x a b c = writerAnswer x (cond a (Failed 17 0) (cond b (Failed 18 0) (con
 module _ (x : List ℕ) where
   -- row 17 lets it pass
   abbrev isListed : Bool
-  isListed = listed x .whole && isHeaded (listed x .records)
+  isListed = isSheet (listed x)
 
   -- row 18 does
   abbrev isFull : Bool
-  isFull = isComplete (record { targets = 0; bytes = 0 }) (listed x .records)
+  isFull = isComplete (due 0 0) (listed x .records)
 
   -- row 19 applies
   abbrev isLost : Bool
@@ -52,13 +53,13 @@ module _ (x : List ℕ) where
   row-17 e = sym (by-rows ∙ ap (λ (b : Bool). byRows x (not b) (not isFull) isLost) e)
 
   -- row 18 is
-  pub row-18 : isListed ≡ true → isFull ≡ false → Refused 18 0 0 ≡ sheetAnswer x
-  row-18 e f = sym (by-rows ∙ ap₂ (λ (b c : Bool). byRows x (not b) (not c) isLost) e f)
+  pub row-18 : (isListed ≡ true) × (isFull ≡ false) → Refused 18 0 0 ≡ sheetAnswer x
+  row-18 e = sym (by-rows ∙ ap₂ (λ (b c : Bool). byRows x (not b) (not c) isLost) (e .0) (e .1))
 
   -- neither does: row 19 decides
-  module _ (e : listed x .whole ≡ true) (h : isHeaded (listed x .records) ≡ true) (f : isFull ≡ true) where
+  module _ (h : Shaped x) where
     shaped : sheetAnswer x ≡ byRows x false false isLost
-    shaped = by-rows ∙ ap₂ (λ (b c : Bool). byRows x (not b) (not c) isLost) (ap₂ (λ (b c : Bool). b && c) e h) f
+    shaped = by-rows ∙ ap₂ (λ (b c : Bool). byRows x (not b) (not c) isLost) (h .0) (h .1)
 
     -- "spelt bytes above 65,536"
     pub row-19-packet : 65536 < length (spell x) → Refused 19 0 0 ≡ sheetAnswer x
@@ -89,15 +90,15 @@ module _ (x lent : List ℕ) where
   unfolding write
   ends-so b e = sym (ap (λ (c : Answer). outcome c (leftBy c (spell x) lent)) e)
 
-  module _ (a : Answer) (left : List ℕ) (p : a ≡ sheetAnswer x) (l : left ≡ placed (sheetAnswer x) (spell x) lent) where
+  module _ (a : Answer) (left : List ℕ) (settled : Settled x lent a left) where
     -- the answer and what is left, by the first of rows 17 to 19 that applies
     answer-by : (c : Check) → firstRow (sheetRows x) ≡ c → a ≡ writerAnswer x c
     unfolding sheetAnswer
-    answer-by c h = p ∙ ap (writerAnswer x) h
+    answer-by c h = settled .0 ∙ ap (writerAnswer x) h
 
     left-by : (c : Check) → firstRow (sheetRows x) ≡ c → left ≡ placed (writerAnswer x c) (spell x) lent
     unfolding sheetAnswer
-    left-by c h = l ∙ ap (λ (b : Check). placed (writerAnswer x b) (spell x) lent) h
+    left-by c h = settled .1 ∙ ap (λ (b : Check). placed (writerAnswer x b) (spell x) lent) h
 
     writing-by : (c : Check) → firstRow (sheetRows x) ≡ c → writingAnswer x (length lent) ≡ roomed c
     writing-by c h = by-room ∙ ap roomed h
@@ -168,14 +169,10 @@ front-back p o left n e h q = ap (take n) (q ∙ sets-over p o h) ∙ take-at p 
 -- ---- the answer and the buffer together
 
 module _ (x lent : List ℕ) where
-  -- the answer of the rows 17 to 19, and what they leave in the buffer
-  abbrev pub Settled : Answer → List ℕ → Type 0
-  Settled a left = (a ≡ sheetAnswer x) × (left ≡ placed (sheetAnswer x) (spell x) lent)
-
   -- a refusal
-  pub settled-refused : (a : Answer) (number segment field : ℕ) → a ≡ Refused number segment field → Refused number segment field ≡ sheetAnswer x → Settled a lent
+  pub settled-refused : (a : Answer) (number segment field : ℕ) → a ≡ Refused number segment field → Refused number segment field ≡ sheetAnswer x → Settled x lent a lent
   settled-refused a number segment field e h = (e ∙ h, placed-refused (sheetAnswer x) (spell x) lent number segment field (sym h))
 
   -- the packet, spelt elsewhere
-  pub settled-placed : (a : Answer) (packet left : List ℕ) → a ≡ sheetAnswer x → packet ≡ spell x → left ≡ placed a packet lent → Settled a left
+  pub settled-placed : (a : Answer) (packet left : List ℕ) → a ≡ sheetAnswer x → packet ≡ spell x → left ≡ placed a packet lent → Settled x lent a left
   settled-placed a packet left e p l = (e, l ∙ ap₂ (λ (b : Answer) (q : List ℕ). placed b q lent) e p)

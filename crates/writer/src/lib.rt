@@ -7,44 +7,33 @@ ghost use Rattle.format.specs.declared.Check.the-variants.{Passed, Failed};
 ghost use Rattle.format.specs.declared.Answer.the-variants.{Refused};
 ghost use Rattle.format.specs.Answer.{outcome};
 ghost use Rattle.format.specs.Writer.{spell, readsBack, writerAnswer, sheetAnswer, write as writeOutcome};
-ghost use Rattle.shape.specs.Shape.{Shaped};
-ghost use Rattle.writer.specs.Placed.{placed};
+ghost use Rattle.readback.specs.Window.{windowLength};
+ghost use Rattle.sheet_walk.specs.Shape.{Shaped};
+ghost use Rattle.spelling.specs.Spelling.{capped};
+ghost use Rattle.writer.specs.Placed.{placed, Spells, Settled};
+use format::Answer;
+use readback::WINDOW;
+use spelling::Survey;
 
-fn refused(number: usize) -> format::Answer
+fn refused(number: usize) -> Answer
     ensures { λ a. ⌜ a ≡ Refused number 0 0 ⌝ }
 {
-    format::Answer::Refused {
-        number,
-        segment: 0,
-        field: 0,
-    }
+    Answer::Refused(number, 0, 0)
 }
 
 // Row 19 of the packet that x spells: it must read to x. Only the packet's rows and the length of its sheet are worked out first; the
 // sheet is then compared with x a few records at a time.
-fn read_back(packet: &[u8], x: &[u8], window: &mut [u8]) -> format::Answer
-    requires { ⌜ (now packet ≡ spell (now x)) × (512 ≤ length (now window)) ⌝ }
+fn read_back(packet: &[u8], x: &[u8], window: &mut [u8]) -> Answer
+    requires { ⌜ (now packet ≡ spell (now x)) × (windowLength ≤ length (now window)) ⌝ }
     ensures { λ a. ⌜ a ≡ writerAnswer (now (x .entry)) (cond (readsBack (spell (now (x .entry))) (now (x .entry))) Passed (Failed 19 0)) ⌝ }
 {
     match reader::check(3, packet) {
-        format::Answer::Refused {
-            number: _,
-            segment: _,
-            field: _,
-        } => refused(19),
-        format::Answer::Accepted {
-            segments,
-            dwells,
-            targets,
-            length,
-        } => {
-            if length == x.len() && comparing::is_sheet(3, packet, x, window) {
-                format::Answer::Accepted {
-                    segments,
-                    dwells,
-                    targets,
-                    length: packet.len(),
-                }
+        Answer::Refused(..) => refused(19),
+        Answer::Accepted(segments, dwells, targets, length) => {
+            if length == x.len()
+                && readback::is_sheet(format::Settings { edition: 3 }, packet, x, window)
+            {
+                Answer::Accepted(segments, dwells, targets, packet.len())
             } else {
                 refused(19)
             }
@@ -53,21 +42,12 @@ fn read_back(packet: &[u8], x: &[u8], window: &mut [u8]) -> format::Answer
 }
 
 // The packet goes into the lent buffer where the answer accepts it and there is room.
-fn place(a: format::Answer, packet: &[u8], o: &mut [u8])
+fn place(a: Answer, packet: &[u8], o: &mut [u8])
     ensures { λ _. ⌜ now (o .exit) ≡ placed a (now (packet .entry)) (now (o .entry)) ⌝ }
 {
     match a {
-        format::Answer::Refused {
-            number: _,
-            segment: _,
-            field: _,
-        } => {}
-        format::Answer::Accepted {
-            segments: _,
-            dwells: _,
-            targets: _,
-            length: _,
-        } => {
+        Answer::Refused(..) => {}
+        Answer::Accepted(..) => {
             if packet.len() <= o.len() {
                 copies::copy_all(packet, o, 0);
             }
@@ -76,16 +56,9 @@ fn place(a: format::Answer, packet: &[u8], o: &mut [u8])
 }
 
 // A sheet of the right shape that spells n bytes: spelt into a lent array, and read back.
-fn write_through(
-    x: &[u8],
-    n: usize,
-    spelt: &mut [u8],
-    window: &mut [u8],
-    o: &mut [u8],
-) -> format::Answer
-    requires { ⌜ (Shaped (now x)) × (n ≡ length (spell (now x))) × (n ≤ 65536) × (n ≤ length (now spelt)) × (512 ≤ length (now window)) ⌝ }
-    ensures { λ a. ⌜ a ≡ sheetAnswer (now (x .entry)) ⌝ }
-    ensures { λ _. ⌜ now (o .exit) ≡ placed (sheetAnswer (now (x .entry))) (spell (now (x .entry))) (now (o .entry)) ⌝ }
+fn write_through(x: &[u8], n: usize, spelt: &mut [u8], window: &mut [u8], o: &mut [u8]) -> Answer
+    requires { ⌜ Spells (now x) n × (n ≤ 65536) × (n ≤ length (now spelt)) × (windowLength ≤ length (now window)) ⌝ }
+    ensures { λ a. ⌜ Settled (now (x .entry)) (now (o .entry)) a (now (o .exit)) ⌝ }
 {
     spelling::spell(x, spelt);
     let packet = &spelt[..n];
@@ -94,141 +67,90 @@ fn write_through(
     a
 }
 
-// An array is cleared before it is lent, so its size goes by the packet's length: 256 bytes, 2,048, 16,384, or room for the longest packet.
-fn small_in(
-    x: &[u8],
-    n: usize,
-    spelt: &mut [u8; 256],
-    window: &mut [u8; 512],
-    o: &mut [u8],
-) -> format::Answer
-    requires { ⌜ (Shaped (now x)) × (n ≡ length (spell (now x))) × (n ≤ 256) ⌝ }
-    ensures { λ a. ⌜ a ≡ sheetAnswer (now (x .entry)) ⌝ }
-    ensures { λ _. ⌜ now (o .exit) ≡ placed (sheetAnswer (now (x .entry))) (spell (now (x .entry))) (now (o .entry)) ⌝ }
+// An array is cleared before it is lent, so its size goes by the packet's length.
+const SMALL: usize = 256;
+
+const MIDDLE: usize = 2048;
+
+const LARGE: usize = 16384;
+
+fn write_small(x: &[u8], n: usize, o: &mut [u8]) -> Answer
+    requires { ⌜ Spells (now x) n × (n ≤ 256) ⌝ }
+    ensures { λ a. ⌜ Settled (now (x .entry)) (now (o .entry)) a (now (o .exit)) ⌝ }
 {
-    write_through(x, n, spelt, window, o)
+    let mut spelt = [0u8; SMALL];
+    let mut window = [0u8; WINDOW];
+    write_through(x, n, &mut spelt, &mut window, o)
 }
 
-fn write_small(x: &[u8], n: usize, o: &mut [u8]) -> format::Answer
-    requires { ⌜ (Shaped (now x)) × (n ≡ length (spell (now x))) × (n ≤ 256) ⌝ }
-    ensures { λ a. ⌜ a ≡ sheetAnswer (now (x .entry)) ⌝ }
-    ensures { λ _. ⌜ now (o .exit) ≡ placed (sheetAnswer (now (x .entry))) (spell (now (x .entry))) (now (o .entry)) ⌝ }
+fn write_middle(x: &[u8], n: usize, o: &mut [u8]) -> Answer
+    requires { ⌜ Spells (now x) n × (n ≤ 2048) ⌝ }
+    ensures { λ a. ⌜ Settled (now (x .entry)) (now (o .entry)) a (now (o .exit)) ⌝ }
 {
-    let mut spelt = [0u8; 256];
-    let mut window = [0u8; 512];
-    small_in(x, n, &mut spelt, &mut window, o)
+    let mut spelt = [0u8; MIDDLE];
+    let mut window = [0u8; WINDOW];
+    write_through(x, n, &mut spelt, &mut window, o)
 }
 
-fn middle_in(
-    x: &[u8],
-    n: usize,
-    spelt: &mut [u8; 2048],
-    window: &mut [u8; 512],
-    o: &mut [u8],
-) -> format::Answer
-    requires { ⌜ (Shaped (now x)) × (n ≡ length (spell (now x))) × (n ≤ 2048) ⌝ }
-    ensures { λ a. ⌜ a ≡ sheetAnswer (now (x .entry)) ⌝ }
-    ensures { λ _. ⌜ now (o .exit) ≡ placed (sheetAnswer (now (x .entry))) (spell (now (x .entry))) (now (o .entry)) ⌝ }
+fn write_large(x: &[u8], n: usize, o: &mut [u8]) -> Answer
+    requires { ⌜ Spells (now x) n × (n ≤ 16384) ⌝ }
+    ensures { λ a. ⌜ Settled (now (x .entry)) (now (o .entry)) a (now (o .exit)) ⌝ }
 {
-    write_through(x, n, spelt, window, o)
+    let mut spelt = [0u8; LARGE];
+    let mut window = [0u8; WINDOW];
+    write_through(x, n, &mut spelt, &mut window, o)
 }
 
-fn write_middle(x: &[u8], n: usize, o: &mut [u8]) -> format::Answer
-    requires { ⌜ (Shaped (now x)) × (n ≡ length (spell (now x))) × (n ≤ 2048) ⌝ }
-    ensures { λ a. ⌜ a ≡ sheetAnswer (now (x .entry)) ⌝ }
-    ensures { λ _. ⌜ now (o .exit) ≡ placed (sheetAnswer (now (x .entry))) (spell (now (x .entry))) (now (o .entry)) ⌝ }
+// Lent as an array, whose type tells its length: of one so long as a slice, the prover does not find it.
+fn longest_in(x: &[u8], n: usize, spelt: &mut [u8; format::LONGEST_PACKET], o: &mut [u8]) -> Answer
+    requires { ⌜ Spells (now x) n × (n ≤ 65536) ⌝ }
+    ensures { λ a. ⌜ Settled (now (x .entry)) (now (o .entry)) a (now (o .exit)) ⌝ }
 {
-    let mut spelt = [0u8; 2048];
-    let mut window = [0u8; 512];
-    middle_in(x, n, &mut spelt, &mut window, o)
+    let mut window = [0u8; WINDOW];
+    write_through(x, n, spelt, &mut window, o)
 }
 
-fn large_in(
-    x: &[u8],
-    n: usize,
-    spelt: &mut [u8; 16384],
-    window: &mut [u8; 512],
-    o: &mut [u8],
-) -> format::Answer
-    requires { ⌜ (Shaped (now x)) × (n ≡ length (spell (now x))) × (n ≤ 16384) ⌝ }
-    ensures { λ a. ⌜ a ≡ sheetAnswer (now (x .entry)) ⌝ }
-    ensures { λ _. ⌜ now (o .exit) ≡ placed (sheetAnswer (now (x .entry))) (spell (now (x .entry))) (now (o .entry)) ⌝ }
+fn write_longest(x: &[u8], n: usize, o: &mut [u8]) -> Answer
+    requires { ⌜ Spells (now x) n × (n ≤ 65536) ⌝ }
+    ensures { λ a. ⌜ Settled (now (x .entry)) (now (o .entry)) a (now (o .exit)) ⌝ }
 {
-    write_through(x, n, spelt, window, o)
+    let mut spelt = [0u8; format::LONGEST_PACKET];
+    longest_in(x, n, &mut spelt, o)
 }
 
-fn write_large(x: &[u8], n: usize, o: &mut [u8]) -> format::Answer
-    requires { ⌜ (Shaped (now x)) × (n ≡ length (spell (now x))) × (n ≤ 16384) ⌝ }
-    ensures { λ a. ⌜ a ≡ sheetAnswer (now (x .entry)) ⌝ }
-    ensures { λ _. ⌜ now (o .exit) ≡ placed (sheetAnswer (now (x .entry))) (spell (now (x .entry))) (now (o .entry)) ⌝ }
+// A sheet of the right shape: n is the length of what it spells, or one more than the longest packet has where that is longer.
+fn write_shaped(x: &[u8], n: usize, o: &mut [u8]) -> Answer
+    requires { ⌜ Shaped (now x) × (n ≡ capped (length (spell (now x)))) ⌝ }
+    ensures { λ a. ⌜ Settled (now (x .entry)) (now (o .entry)) a (now (o .exit)) ⌝ }
 {
-    let mut spelt = [0u8; 16384];
-    let mut window = [0u8; 512];
-    large_in(x, n, &mut spelt, &mut window, o)
-}
-
-fn longest_in(
-    x: &[u8],
-    n: usize,
-    spelt: &mut [u8; 65536],
-    window: &mut [u8; 512],
-    o: &mut [u8],
-) -> format::Answer
-    requires { ⌜ (Shaped (now x)) × (n ≡ length (spell (now x))) × (n ≤ 65536) ⌝ }
-    ensures { λ a. ⌜ a ≡ sheetAnswer (now (x .entry)) ⌝ }
-    ensures { λ _. ⌜ now (o .exit) ≡ placed (sheetAnswer (now (x .entry))) (spell (now (x .entry))) (now (o .entry)) ⌝ }
-{
-    write_through(x, n, spelt, window, o)
-}
-
-fn write_longest(x: &[u8], n: usize, o: &mut [u8]) -> format::Answer
-    requires { ⌜ (Shaped (now x)) × (n ≡ length (spell (now x))) × (n ≤ 65536) ⌝ }
-    ensures { λ a. ⌜ a ≡ sheetAnswer (now (x .entry)) ⌝ }
-    ensures { λ _. ⌜ now (o .exit) ≡ placed (sheetAnswer (now (x .entry))) (spell (now (x .entry))) (now (o .entry)) ⌝ }
-{
-    let mut spelt = [0u8; 65536];
-    let mut window = [0u8; 512];
-    longest_in(x, n, &mut spelt, &mut window, o)
-}
-
-// A sheet of the right shape. No packet is longer than 65,536 bytes.
-fn write_shaped(x: &[u8], o: &mut [u8]) -> format::Answer
-    requires { ⌜ Shaped (now x) ⌝ }
-    ensures { λ a. ⌜ a ≡ sheetAnswer (now (x .entry)) ⌝ }
-    ensures { λ _. ⌜ now (o .exit) ≡ placed (sheetAnswer (now (x .entry))) (spell (now (x .entry))) (now (o .entry)) ⌝ }
-{
-    let n = spelling::spelt_length(x);
-    if 65536 < n {
+    if format::LONGEST_PACKET < n {
         return refused(19);
     }
-    if n <= 256 {
+    if n <= SMALL {
         return write_small(x, n, o);
     }
-    if n <= 2048 {
+    if n <= MIDDLE {
         return write_middle(x, n, o);
     }
-    if n <= 16384 {
+    if n <= LARGE {
         return write_large(x, n, o);
     }
     write_longest(x, n, o)
 }
 
 // Rows 17 to 19 of any bytes; an accepted packet goes into the lent buffer where there is room for it.
-fn write_where_room(x: &[u8], o: &mut [u8]) -> format::Answer
-    ensures { λ a. ⌜ a ≡ sheetAnswer (now (x .entry)) ⌝ }
-    ensures { λ _. ⌜ now (o .exit) ≡ placed (sheetAnswer (now (x .entry))) (spell (now (x .entry))) (now (o .entry)) ⌝ }
+fn write_where_room(x: &[u8], o: &mut [u8]) -> Answer
+    ensures { λ a. ⌜ Settled (now (x .entry)) (now (o .entry)) a (now (o .exit)) ⌝ }
 {
-    if !shape::is_listed(x) {
-        return refused(17);
+    match spelling::survey_of(x) {
+        Survey::Unlisted => refused(17),
+        Survey::Incomplete => refused(18),
+        Survey::Spells(n) => write_shaped(x, n, o),
     }
-    if !shape::is_complete(x) {
-        return refused(18);
-    }
-    write_shaped(x, o)
 }
 
 // Rows 17 to 19 of a sheet by itself: whether a reading gives it, and the counts and the length of its packet.
-pub fn check(x: &[u8]) -> format::Answer
+pub fn check(x: &[u8]) -> Answer
     ensures { λ a. ⌜ a ≡ sheetAnswer (now (x .entry)) ⌝ }
 {
     let mut none = [0u8; 1];
@@ -236,23 +158,14 @@ pub fn check(x: &[u8]) -> format::Answer
 }
 
 // Writes the packet that reads to this sheet into the lent buffer. Nothing is written before every row has been looked at.
-pub fn write(x: &[u8], o: &mut [u8]) -> format::Answer
+pub fn write(x: &[u8], o: &mut [u8]) -> Answer
     ensures { λ a. ⌜ outcome a (now (o .exit)) ≡ writeOutcome (now (x .entry)) (now (o .entry)) ⌝ }
 {
     let room = o.len();
     let a = write_where_room(x, o);
     match a {
-        format::Answer::Refused {
-            number: _,
-            segment: _,
-            field: _,
-        } => a,
-        format::Answer::Accepted {
-            segments: _,
-            dwells: _,
-            targets: _,
-            length,
-        } => {
+        Answer::Refused(..) => a,
+        Answer::Accepted(_, _, _, length) => {
             if room < length {
                 return refused(20);
             }

@@ -6,20 +6,11 @@ use borrow.Author.Needs.{needs}
 use Rattle.checks.proofs.first_other.Statement.{statement}
 use Rattle.checks.proofs.first_other.Tie as tie
 
-is-text-requires : tie.Need-is-text-requires
-is-text-requires c κs = search needs
-
 returns : tie.Need-returns
 returns c = rw (sym (c .before .is-text .ensures) ∙ not-true _ (c .if1 .taken))
 
-is-text-requires-2 : tie.Need-is-text-requires-2
-is-text-requires-2 c κs = search needs
-
 returns-2 : tie.Need-returns-2
 returns-2 c = rw (sym (c .before .before .before .is-text .ensures) ∙ not-false _ (c .before .before .if1 .left), sym (c .before .is-text2 .ensures) ∙ not-true _ (c .if2 .taken))
-
-is-text-requires-3 : tie.Need-is-text-requires-3
-is-text-requires-3 c κs = search needs
 
 returns-3 : tie.Need-returns-3
 returns-3 c = rw (sym (c .before .before .before .before .before .is-text .ensures) ∙ not-false _ (c .before .before .before .before .if1 .left), sym (c .before .before .before .is-text2 .ensures) ∙ not-false _ (c .before .before .if2 .left), sym (c .before .is-text3 .ensures) ∙ not-true _ (c .if3 .taken))
@@ -31,10 +22,10 @@ pub first-other-spec : {M : Type 1} → statement M
 first-other-spec =
     tie.close
     (tie.spec
-    is-text-requires
+    (λ c κs. search needs)
     returns
-    is-text-requires-2
+    (λ c κs. search needs)
     returns-2
-    is-text-requires-3
+    (λ c κs. search needs)
     returns-3
     returns-4)

@@ -16,7 +16,7 @@ use Rattle.checks.proofs.header_check.Tie as tie
 
 -- the first row that applies, of those from the k-th on
 abbrev from : ℕ → tie.Start → Check
-from k c = firstRow (drop k (headerRows (c .args .edition) (now (c .args .l))))
+from k c = firstRow (drop k (headerRows (c .args .settings) (now (c .args .l))))
 
 -- row 1 does not apply
 past-1 : (c : tie.Else1) → from 0 (c .before .before .before) ≡ from 1 (c .before .before .before)
@@ -41,9 +41,6 @@ past-4 c =
     let l = now (c .before .before .before .before .before .before .before .before .before .before .before .args .l) in
     past-3 (c .before .before) ∙ rw (eq-eqb (P 2 l) (length l) (sym (c .before .get-u32 .ensures) ∙ c .if5 .left))
 
-is-edition-requires : tie.Need-is-edition-requires
-is-edition-requires c κs = search needs
-
 returns : tie.Need-returns
 unfolding firstRow headerRows
 returns c = rw (sym (c .before .is-edition .ensures) ∙ not-true _ (c .if1 .taken))
@@ -59,36 +56,15 @@ returns-2 c =
     (λ w. rw (le-ltb n 32 (w .0 .left), w .1 .taken))
     (c .if2 .came))
 
-shared-slice-read-is-version : tie.Need-shared-slice-read-is-version
-shared-slice-read-is-version c = search needs
-
-shared-slice-read-is-version-2 : tie.Need-shared-slice-read-is-version-2
-shared-slice-read-is-version-2 c = search needs
-
-is-version-requires : tie.Need-is-version-requires
-is-version-requires c κs = search needs
-
 returns-3 : tie.Need-returns-3
 unfolding firstRow headerRows isP1
 returns-3 c = sym (past-2 (c .before .before .before .before) ∙ rw (sym (c .before .is-version .ensures) ∙ not-true _ (c .if4 .taken)))
-
-get-u32-requires : tie.Need-get-u32-requires
-get-u32-requires c κs = search needs
-
-cast-if5 : tie.Need-cast-if5
-cast-if5 c = search needs
 
 returns-4 : tie.Need-returns-4
 unfolding firstRow headerRows value total
 returns-4 c =
     let l = now (c .before .before .before .before .before .before .before .before .before .before .before .args .l) in
     sym (past-3 (c .before .before) ∙ rw (ne-eqb (P 2 l) (length l) (λ e. c .if5 .taken (c .before .get-u32 .ensures ∙ e))))
-
-header-text-requires : tie.Need-header-text-requires
-header-text-requires c κs = search needs
-
-naming-row-requires : tie.Need-naming-row-requires
-naming-row-requires c κs = search needs
 
 returns-5 : tie.Need-returns-5
 unfolding headerRows
@@ -98,16 +74,16 @@ pub header-check-spec : {M : Type 1} → statement M
 header-check-spec =
     tie.close
     (tie.spec
-    is-edition-requires
+    (λ c κs. search needs)
     returns
     returns-2
-    shared-slice-read-is-version
-    shared-slice-read-is-version-2
-    is-version-requires
+    (λ c. search needs)
+    (λ c. search needs)
+    (λ c κs. search needs)
     returns-3
-    get-u32-requires
-    cast-if5
+    (λ c κs. search needs)
+    (λ c. search needs)
     returns-4
-    header-text-requires
-    naming-row-requires
+    (λ c κs. search needs)
+    (λ c κs. search needs)
     returns-5)

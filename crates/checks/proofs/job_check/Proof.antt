@@ -35,30 +35,9 @@ returns : tie.Need-returns
 unfolding firstRow jobRows
 returns c = rw (ne-eqb (s2 (now (c .before .before .args .b))) 73 (λ e. c .if1 .taken (omega arith)))
 
-sub-is-text : tie.Need-sub-is-text
-sub-is-text c = search needs
-
-part-is-text-start : tie.Need-part-is-text-start
-part-is-text-start c = search needs
-
-part-is-text-end : tie.Need-part-is-text-end
-part-is-text-end c = search needs
-
-is-text-requires : tie.Need-is-text-requires
-is-text-requires c κs = search needs
-
 returns-2 : tie.Need-returns-2
 unfolding firstRow jobRows textFault field total
 returns-2 c = sym (past-9 (c .before .before .before) ∙ rw (sym (c .before .is-text .ensures) ∙ not-true _ (c .if2 .taken)))
-
-is-older-requires : tie.Need-is-older-requires
-is-older-requires c κs = search needs
-
-shared-slice-read-is-new-mode : tie.Need-shared-slice-read-is-new-mode
-shared-slice-read-is-new-mode c = search needs
-
-is-new-mode-requires : tie.Need-is-new-mode-requires
-is-new-mode-requires c κs = search needs
 
 returns-3 : tie.Need-returns-3
 unfolding firstRow jobRows value total
@@ -83,13 +62,13 @@ job-check-spec =
     tie.close
     (tie.spec
     returns
-    sub-is-text
-    part-is-text-start
-    part-is-text-end
-    is-text-requires
+    (λ c. search needs)
+    (λ c. search needs)
+    (λ c. search needs)
+    (λ c κs. search needs)
     returns-2
-    is-older-requires
-    shared-slice-read-is-new-mode
-    is-new-mode-requires
+    (λ c κs. search needs)
+    (λ c. search needs)
+    (λ c κs. search needs)
     returns-3
     returns-4)

@@ -35,14 +35,11 @@ past-month : (c : tie.Else3) → from 0 (c .before .before .before .before .befo
 unfolding firstRow missionRows value total
 past-month c =
     past-10 (c .before .before .before)
-    ∙ rw (one-byte 37 (now (c .before .before .before .before .before .before .before .args .b)), sym (c .before .is-within .ensures) ∙ not-false _ (c .if3 .left))
+    ∙ rw (one-byte 37 (now (c .before .before .before .before .before .before .before .args .b)), sym (c .before .is-between .ensures) ∙ not-false _ (c .if3 .left))
 
 returns : tie.Need-returns
 unfolding firstRow missionRows
 returns c = rw (ne-eqb (s2 (now (c .before .before .args .b))) 44 (λ e. c .if1 .taken (omega arith)))
-
-mission-text-requires : tie.Need-mission-text-requires
-mission-text-requires c κs = search needs
 
 returns-2 : tie.Need-returns-2
 unfolding firstRow missionRows
@@ -51,50 +48,38 @@ returns-2 c =
     (past-9 (c .before .before)
     ∙ rw (sym (c .before .mission-text .ensures), ne-eqb (c .before .mission-text .result) 0 (c .if2 .taken)))
 
-shared-slice-read-is-within : tie.Need-shared-slice-read-is-within
-shared-slice-read-is-within c = search needs
-
-is-within-requires : tie.Need-is-within-requires
-is-within-requires c κs = search needs
-
 returns-3 : tie.Need-returns-3
 unfolding firstRow missionRows value total
 returns-3 c =
     sym
     (past-10 (c .before .before .before)
-    ∙ rw (one-byte 37 (now (c .before .before .before .before .before .before .before .args .b)), sym (c .before .is-within .ensures) ∙ not-true _ (c .if3 .taken)))
-
-shared-slice-read-is-within-2 : tie.Need-shared-slice-read-is-within-2
-shared-slice-read-is-within-2 c = search needs
-
-is-within-requires-2 : tie.Need-is-within-requires-2
-is-within-requires-2 c κs = search needs
+    ∙ rw (one-byte 37 (now (c .before .before .before .before .before .before .before .args .b)), sym (c .before .is-between .ensures) ∙ not-true _ (c .if3 .taken)))
 
 returns-4 : tie.Need-returns-4
 unfolding firstRow missionRows value total
 returns-4 c =
     sym
     (past-month (c .before .before .before)
-    ∙ rw (one-byte 38 (now (c .before .before .before .before .before .before .before .before .before .before .args .b)), sym (c .before .is-within2 .ensures) ∙ not-true _ (c .if4 .taken)))
+    ∙ rw (one-byte 38 (now (c .before .before .before .before .before .before .before .before .before .before .args .b)), sym (c .before .is-between2 .ensures) ∙ not-true _ (c .if4 .taken)))
 
 returns-5 : tie.Need-returns-5
 unfolding firstRow missionRows value total
 returns-5 c =
     sym
     (past-month (c .before .before .before)
-    ∙ rw (one-byte 38 (now (c .before .before .before .before .before .before .before .before .before .before .args .b)), sym (c .before .is-within2 .ensures) ∙ not-false _ (c .if4 .left)))
+    ∙ rw (one-byte 38 (now (c .before .before .before .before .before .before .before .before .before .before .args .b)), sym (c .before .is-between2 .ensures) ∙ not-false _ (c .if4 .left)))
 
 pub mission-check-spec : {M : Type 1} → statement M
 mission-check-spec =
     tie.close
     (tie.spec
     returns
-    mission-text-requires
+    (λ c κs. search needs)
     returns-2
-    shared-slice-read-is-within
-    is-within-requires
+    (λ c. search needs)
+    (λ c κs. search needs)
     returns-3
-    shared-slice-read-is-within-2
-    is-within-requires-2
+    (λ c. search needs)
+    (λ c κs. search needs)
     returns-4
     returns-5)

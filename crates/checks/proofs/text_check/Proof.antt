@@ -14,15 +14,9 @@ returns : tie.Need-returns
 unfolding firstRow textRows
 returns c = rw (lt-ltb (s2 (now (c .before .before .args .b))) 25 (omega arith))
 
-free-text-requires : tie.Need-free-text-requires
-free-text-requires c κs = search needs
-
-naming-row-requires : tie.Need-naming-row-requires
-naming-row-requires c κs = search needs
-
 returns-2 : tie.Need-returns-2
 unfolding firstRow textRows
 returns-2 c = rw (le-ltb (s2 (now (c .before .before .before .before .args .b))) 25 (omega arith), sym (c .before .free-text .ensures)) (c .naming-row .ensures)
 
 pub text-check-spec : {M : Type 1} → statement M
-text-check-spec = tie.close (tie.spec returns free-text-requires naming-row-requires returns-2)
+text-check-spec = tie.close (tie.spec returns (λ c κs. search needs) (λ c κs. search needs) returns-2)

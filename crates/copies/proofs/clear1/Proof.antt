@@ -6,15 +6,9 @@ use borrow.Author.Needs.{needs}
 use Rattle.copies.proofs.clear1.Statement.{statement}
 use Rattle.copies.proofs.clear1.Tie as tie
 
-slice-write-o : tie.Need-slice-write-o
-slice-write-o c = search needs
-
-same-length : tie.Need-same-length
-same-length c = search needs
-
 returns : tie.Need-returns
 unfolding pad
 returns c = refl
 
 pub clear1-spec : {M : Type 1} → statement M
-clear1-spec = tie.close (tie.spec slice-write-o same-length returns)
+clear1-spec = tie.close (tie.spec (λ c. search needs) (λ c. search needs) returns)

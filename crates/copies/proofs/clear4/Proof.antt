@@ -6,15 +6,9 @@ use borrow.Author.Needs.{needs}
 use Rattle.copies.proofs.clear4.Statement.{statement}
 use Rattle.copies.proofs.clear4.Tie as tie
 
-put-u32-requires : tie.Need-put-u32-requires
-put-u32-requires c κs = search needs
-
-same-length : tie.Need-same-length
-same-length c = search needs
-
 returns : tie.Need-returns
 unfolding bytes pad
 returns c = c .before .before .put-u32 .ensures
 
 pub clear4-spec : {M : Type 1} → statement M
-clear4-spec = tie.close (tie.spec put-u32-requires same-length returns)
+clear4-spec = tie.close (tie.spec (λ c κs. search needs) (λ c. search needs) returns)

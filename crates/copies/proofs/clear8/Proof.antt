@@ -6,15 +6,9 @@ use borrow.Author.Needs.{needs}
 use Rattle.copies.proofs.clear8.Statement.{statement}
 use Rattle.copies.proofs.clear8.Tie as tie
 
-put-u64-requires : tie.Need-put-u64-requires
-put-u64-requires c κs = search needs
-
-same-length : tie.Need-same-length
-same-length c = search needs
-
 returns : tie.Need-returns
 unfolding bytes pad
 returns c = c .before .before .put-u64 .ensures
 
 pub clear8-spec : {M : Type 1} → statement M
-clear8-spec = tie.close (tie.spec put-u64-requires same-length returns)
+clear8-spec = tie.close (tie.spec (λ c κs. search needs) (λ c. search needs) returns)

@@ -8,17 +8,8 @@ use borrow.Author.Needs.{needs}
 use Rattle.copies.proofs.copy1.Statement.{statement}
 use Rattle.copies.proofs.copy1.Tie as tie
 
-shared-slice-read-o : tie.Need-shared-slice-read-o
-shared-slice-read-o c = search needs
-
-slice-write-o : tie.Need-slice-write-o
-slice-write-o c = search needs
-
-same-length : tie.Need-same-length
-same-length c = search needs
-
 returns : tie.Need-returns
 returns c = let a = c .before .args in ap (sets (now (a .o)) (a .q)) (sym (one-byte (now (a .s)) (a .p) (c .before .pre .0)))
 
 pub copy1-spec : {M : Type 1} → statement M
-copy1-spec = tie.close (tie.spec shared-slice-read-o slice-write-o same-length returns)
+copy1-spec = tie.close (tie.spec (λ c. search needs) (λ c. search needs) (λ c. search needs) returns)

@@ -6,17 +6,8 @@ use borrow.Author.Needs.{needs}
 use Rattle.copies.proofs.copy2.Statement.{statement}
 use Rattle.copies.proofs.copy2.Tie as tie
 
-get-u16-requires : tie.Need-get-u16-requires
-get-u16-requires c κs = search needs
-
-put-u16-requires : tie.Need-put-u16-requires
-put-u16-requires c κs = search needs
-
-same-length : tie.Need-same-length
-same-length c = search needs
-
 returns : tie.Need-returns
 returns c = let a = c .before .before .before .before .before .before .before .args in copied 2 (now (a .s)) (now (a .o)) (a .p) (a .q) (λ i. c .before .before .before .before .before .before .shared-slice-known .given i .fits) (c .before .before .before .before .before .before .before .pre .0) (c .before .before .before .get-u16 .ensures) (c .before .before .put-u16 .ensures)
 
 pub copy2-spec : {M : Type 1} → statement M
-copy2-spec = tie.close (tie.spec get-u16-requires put-u16-requires same-length returns)
+copy2-spec = tie.close (tie.spec (λ c κs. search needs) (λ c κs. search needs) (λ c. search needs) returns)

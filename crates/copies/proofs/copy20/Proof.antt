@@ -7,24 +7,9 @@ use borrow.Author.Needs.{needs}
 use Rattle.copies.proofs.copy20.Statement.{statement}
 use Rattle.copies.proofs.copy20.Tie as tie
 
-copy16-requires : tie.Need-copy16-requires
-copy16-requires c κs = search needs
-
-add-copy4 : tie.Need-add-copy4
-add-copy4 c = search needs
-
-add-copy4-2 : tie.Need-add-copy4-2
-add-copy4-2 c = search needs
-
-copy4-requires : tie.Need-copy4-requires
-copy4-requires c κs = search needs
-
-same-length : tie.Need-same-length
-same-length c = search needs
-
 returns : tie.Need-returns
 returns c = let a = c .before .before .before .before .before .before .before .before .before .before .args in copied-both 16 4 (now (a .s)) (now (a .o)) (a .p) (a .q) (omega arith) (c .before .before .before .before .before .before .copy16 .ensures) (c .before .before .copy4 .ensures)
 
 pub copy20-spec : {M : Type 1} → statement M
 copy20-spec =
-    tie.close (tie.spec copy16-requires add-copy4 add-copy4-2 copy4-requires same-length returns)
+    tie.close (tie.spec (λ c κs. search needs) (λ c. search needs) (λ c. search needs) (λ c κs. search needs) (λ c. search needs) returns)

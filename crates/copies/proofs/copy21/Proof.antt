@@ -7,24 +7,9 @@ use borrow.Author.Needs.{needs}
 use Rattle.copies.proofs.copy21.Statement.{statement}
 use Rattle.copies.proofs.copy21.Tie as tie
 
-copy20-requires : tie.Need-copy20-requires
-copy20-requires c κs = search needs
-
-add-copy1 : tie.Need-add-copy1
-add-copy1 c = search needs
-
-add-copy1-2 : tie.Need-add-copy1-2
-add-copy1-2 c = search needs
-
-copy1-requires : tie.Need-copy1-requires
-copy1-requires c κs = search needs
-
-same-length : tie.Need-same-length
-same-length c = search needs
-
 returns : tie.Need-returns
 returns c = let a = c .before .before .before .before .before .before .before .before .before .before .args in copied-both 20 1 (now (a .s)) (now (a .o)) (a .p) (a .q) (omega arith) (c .before .before .before .before .before .before .copy20 .ensures) (c .before .before .copy1 .ensures)
 
 pub copy21-spec : {M : Type 1} → statement M
 copy21-spec =
-    tie.close (tie.spec copy20-requires add-copy1 add-copy1-2 copy1-requires same-length returns)
+    tie.close (tie.spec (λ c κs. search needs) (λ c. search needs) (λ c. search needs) (λ c κs. search needs) (λ c. search needs) returns)

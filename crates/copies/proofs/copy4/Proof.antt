@@ -6,17 +6,8 @@ use borrow.Author.Needs.{needs}
 use Rattle.copies.proofs.copy4.Statement.{statement}
 use Rattle.copies.proofs.copy4.Tie as tie
 
-get-u32-requires : tie.Need-get-u32-requires
-get-u32-requires c κs = search needs
-
-put-u32-requires : tie.Need-put-u32-requires
-put-u32-requires c κs = search needs
-
-same-length : tie.Need-same-length
-same-length c = search needs
-
 returns : tie.Need-returns
 returns c = let a = c .before .before .before .before .before .before .before .args in copied 4 (now (a .s)) (now (a .o)) (a .p) (a .q) (λ i. c .before .before .before .before .before .before .shared-slice-known .given i .fits) (c .before .before .before .before .before .before .before .pre .0) (c .before .before .before .get-u32 .ensures) (c .before .before .put-u32 .ensures)
 
 pub copy4-spec : {M : Type 1} → statement M
-copy4-spec = tie.close (tie.spec get-u32-requires put-u32-requires same-length returns)
+copy4-spec = tie.close (tie.spec (λ c κs. search needs) (λ c κs. search needs) (λ c. search needs) returns)

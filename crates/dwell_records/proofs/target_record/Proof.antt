@@ -8,38 +8,19 @@ use mir.Syntax.{w32}
 use mir.Facts.{toZ-ofZ}
 use borrow.Author.Needs.{sfits-of}
 use Rattle.octets.specs.Octets.{signedBytes}
+use Rattle.octets.specs.Layout.{total}
 use Rattle.position.specs.Position.{isLatitude, latitudeMicro, longitudeMicro}
 use Rattle.dwell_records.proofs.Targets.{target-laid}
 use borrow.Author.Needs.{needs}
 use Rattle.dwell_records.proofs.target_record.Statement.{statement}
 use Rattle.dwell_records.proofs.target_record.Tie as tie
 
-latitude-of-requires : tie.Need-latitude-of-requires
-latitude-of-requires c κs = search needs
-
 latitude-micro-requires : tie.Need-latitude-micro-requires
-latitude-micro-requires c κs = ap isLatitude (c .latitude-of .ensures) ∙ c .before .before .before .before .before .before .before .before .before .before .before .pre .4
-
-longitude-of-requires : tie.Need-longitude-of-requires
-longitude-of-requires c κs = search needs
-
-longitude-micro-requires : tie.Need-longitude-micro-requires
-longitude-micro-requires c κs = search needs
-
-put-byte-requires : tie.Need-put-byte-requires
-put-byte-requires c κs = search needs
+latitude-micro-requires c κs = ap isLatitude (c .latitude-of .ensures) ∙ c .before .before .before .before .before .before .before .before .before .before .before .pre .3
 
 target-fields-requires : tie.Need-target-fields-requires
+unfolding total
 target-fields-requires c κs = search needs
-
-put-i32-requires : tie.Need-put-i32-requires
-put-i32-requires c κs = search needs
-
-put-u32-requires : tie.Need-put-u32-requires
-put-u32-requires c κs = search needs
-
-same-length : tie.Need-same-length
-same-length c = search needs
 
 returns : tie.Need-returns
 returns c =
@@ -49,7 +30,7 @@ returns c =
     target-laid (a .mask) (a .area) (now (a .t)) (now (a .o)) (lat .result) (lon .result)
     (lat .ensures ∙ ap latitudeMicro (c .before .before .before .before .before .before .before .before .before .before .before .latitude-of .ensures))
     (lon .ensures ∙ ap longitudeMicro (c .before .before .before .before .before .longitude-of .ensures))
-    (c .before .before .before .before .before .before .before .before .before .before .before .before .before .before .before .before .before .before .put-byte .ensures) (c .before .before .before .before .before .before .before .before .before .before .before .before .before .before .target-fields .ensures .1)
+    (c .before .before .before .before .before .before .before .before .before .before .before .before .before .before .before .before .before .before .put-byte .ensures) (c .before .before .before .before .before .before .before .before .before .before .before .before .before .before .target-fields .ensures .stored)
     (c .before .before .before .before .before .before .before .before .put-i32 .ensures ∙ ap (λ (z : ℤ). sets (c .before .before .before .before .before .before .before .before .before .before .before .before .before .before .target-fields .last .1 .1 .1 .0) 37 (signedBytes 4 z)) (toZ-ofZ (sfits-of {w = w32} {z = lat .result} (lat .ok))))
     (c .before .before .put-u32 .ensures)
 
@@ -57,13 +38,13 @@ pub target-record-spec : {M : Type 1} → statement M
 target-record-spec =
     tie.close
     (tie.spec
-    put-byte-requires
+    (λ c κs. search needs)
     target-fields-requires
-    latitude-of-requires
+    (λ c κs. search needs)
     latitude-micro-requires
-    put-i32-requires
-    longitude-of-requires
-    longitude-micro-requires
-    put-u32-requires
-    same-length
+    (λ c κs. search needs)
+    (λ c κs. search needs)
+    (λ c κs. search needs)
+    (λ c κs. search needs)
+    (λ c. search needs)
     returns)

@@ -6,9 +6,6 @@ use Rattle.format.specs.Edition.{mark}
 use Rattle.editions.proofs.mark_of.Statement.{statement}
 use Rattle.editions.proofs.mark_of.Tie as tie
 
-is-older-requires : tie.Need-is-older-requires
-is-older-requires c κs = search needs
-
 returns : tie.Need-returns
 unfolding mark
 returns c = rw (sym (c .before .is-older .ensures) ∙ c .if1 .taken)
@@ -18,4 +15,4 @@ unfolding mark
 returns-2 c = rw (sym (c .before .is-older .ensures) ∙ c .if1 .left)
 
 pub mark-of-spec : {M : Type 1} → statement M
-mark-of-spec = tie.close (tie.spec is-older-requires returns returns-2)
+mark-of-spec = tie.close (tie.spec (λ c κs. search needs) returns returns-2)

@@ -5,12 +5,6 @@ use borrow.Author.Needs.{needs}
 use Rattle.editions.proofs.new_field.Statement.{statement}
 use Rattle.editions.proofs.new_field.Tie as tie
 
-is-older-requires : tie.Need-is-older-requires
-is-older-requires c κs = search needs
-
-new-in-mask-requires : tie.Need-new-in-mask-requires
-new-in-mask-requires c κs = search needs
-
 returns : tie.Need-returns
 returns c = rw (sym (c .before .before .is-older .ensures) ∙ c .before .if1 .taken) (c .new-in-mask .ensures)
 
@@ -18,4 +12,4 @@ returns-2 : tie.Need-returns-2
 returns-2 c = rw (sym (c .before .is-older .ensures) ∙ c .if1 .left)
 
 pub new-field-spec : {M : Type 1} → statement M
-new-field-spec = tie.close (tie.spec is-older-requires new-in-mask-requires returns returns-2)
+new-field-spec = tie.close (tie.spec (λ c κs. search needs) (λ c κs. search needs) returns returns-2)

@@ -6,17 +6,11 @@ use borrow.Author.Needs.{needs}
 use Rattle.gmti.proofs.gmti_read.Statement.{statement}
 use Rattle.gmti.proofs.gmti_read.Tie as tie
 
-read-requires : tie.Need-read-requires
-read-requires c κs = search needs
-
 put-numbers-requires : tie.Need-put-numbers-requires
 put-numbers-requires c κs = outcome-fits _ _ _ (c .before .before .before .read .ensures) (read-numbers-fit _ _ _)
-
-same-length : tie.Need-same-length
-same-length c = search needs
 
 returns : tie.Need-returns
 returns c = outcome-parts _ _ _ (c .before .before .before .before .read .ensures) _ (c .put-numbers .ensures)
 
 pub gmti-read-spec : {M : Type 1} → statement M
-gmti-read-spec = tie.close (tie.spec read-requires put-numbers-requires same-length returns)
+gmti-read-spec = tie.close (tie.spec (λ c κs. search needs) put-numbers-requires (λ c. search needs) returns)

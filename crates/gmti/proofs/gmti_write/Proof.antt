@@ -6,17 +6,11 @@ use borrow.Author.Needs.{needs}
 use Rattle.gmti.proofs.gmti_write.Statement.{statement}
 use Rattle.gmti.proofs.gmti_write.Tie as tie
 
-write-requires : tie.Need-write-requires
-write-requires c κs = search needs
-
 put-numbers-requires : tie.Need-put-numbers-requires
 put-numbers-requires c κs = outcome-fits _ _ _ (c .before .before .before .write .ensures) (write-numbers-fit _ _)
-
-same-length : tie.Need-same-length
-same-length c = search needs
 
 returns : tie.Need-returns
 returns c = outcome-parts _ _ _ (c .before .before .before .before .write .ensures) _ (c .put-numbers .ensures)
 
 pub gmti-write-spec : {M : Type 1} → statement M
-gmti-write-spec = tie.close (tie.spec write-requires put-numbers-requires same-length returns)
+gmti-write-spec = tie.close (tie.spec (λ c κs. search needs) put-numbers-requires (λ c. search needs) returns)

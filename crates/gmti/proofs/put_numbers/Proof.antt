@@ -8,9 +8,6 @@ use borrow.Author.Needs.{needs}
 use Rattle.gmti.proofs.put_numbers.Statement.{statement}
 use Rattle.gmti.proofs.put_numbers.Tie as tie
 
-enum-known-a : tie.Need-enum-known-a
-enum-known-a c = search needs
-
 cast-t10 : tie.Need-cast-t10
 cast-t10 c = omega (arith, accepted-fit _ (c .before .before .before .pre) (c .before .a .given .1))
 
@@ -22,9 +19,6 @@ cast-t12 c = omega (arith, accepted-fit _ (c .before .before .before .pre) (c .b
 
 cast-t13 : tie.Need-cast-t13
 cast-t13 c = omega (arith, accepted-fit _ (c .before .before .before .pre) (c .before .a .given .1))
-
-enum-known-a-2 : tie.Need-enum-known-a-2
-enum-known-a-2 c = search needs
 
 cast-t14 : tie.Need-cast-t14
 cast-t14 c = omega (arith, refused-fit _ (c .before .before .before .pre) (c .before .a2 .given .1))
@@ -47,12 +41,12 @@ pub put-numbers-spec : {M : Type 1} → statement M
 put-numbers-spec =
     tie.close
     (tie.spec
-    enum-known-a
+    (λ c. search needs)
     cast-t10
     cast-t11
     cast-t12
     cast-t13
-    enum-known-a-2
+    (λ c. search needs)
     cast-t14
     cast-t15
     cast-t16

@@ -25,12 +25,6 @@ found c = omega (arith, c .find .ensures .0)
 faulty : (c : tie.At-match-keys2) → c .before .fault .result ≡ Nothing → ⊥
 faulty c e = miss (1 ∷ 2 ∷ 3 ∷ 4 ∷ 5 ∷ []) 0 tt (rw e at (c .match .keys2))
 
-find-requires : tie.Need-find-requires
-find-requires c κs = search needs
-
-fault-requires : tie.Need-fault-requires
-fault-requires c κs = search needs
-
 enum-told : tie.Need-enum-told
 enum-told c = search needs
 
@@ -39,9 +33,6 @@ slice-aggregate-put-unread c = sym (named (c .before .before .before .before))
 
 put-unread-requires : tie.Need-put-unread-requires
 put-unread-requires c κs = omega (arith, named (c .before .before .before .before), c .before .before .before .before .find .ensures .1 .1, c .before .before .before .before .before .before .before .before .before .before .before .pre .1 .1)
-
-same-length : tie.Need-same-length
-same-length c = search needs
 
 returns : tie.Need-returns
 returns c =
@@ -55,21 +46,6 @@ put-packet-requires c κs =
     let start = c .before .before .before .before .before .before .before .before .before .before .before .before .before .before .before in
     ((found (c .before .before .before .before .before .before .before .before), fault-nothing (now (start .args .line)) (sym (c .before .before .before .before .before .before .before .fault .ensures) ∙ c .before .before .before .before .before .enum-told .given .1)), (start .pre .0, (start .pre .1 .0, start .pre .1 .1)))
 
-same-length-2 : tie.Need-same-length-2
-same-length-2 c = search needs
-
-same-length-3 : tie.Need-same-length-3
-same-length-3 c = search needs
-
-same-length-4 : tie.Need-same-length-4
-same-length-4 c = search needs
-
-same-length-5 : tie.Need-same-length-5
-same-length-5 c = search needs
-
-same-length-6 : tie.Need-same-length-6
-same-length-6 c = search needs
-
 returns-2 : tie.Need-returns-2
 returns-2 c =
     let start = c .before .before .before .before .before .before .before .before .before .before .before .before .before .before .before .before .before .before .before .before .before .before .before .before .before .before in
@@ -81,17 +57,17 @@ pub answer-spec : {M : Type 1} → statement M
 answer-spec =
     tie.close
     (tie.spec
-    find-requires
-    fault-requires
+    (λ c κs. search needs)
+    (λ c κs. search needs)
     enum-told
     slice-aggregate-put-unread
     put-unread-requires
-    same-length
+    (λ c. search needs)
     returns
     put-packet-requires
-    same-length-2
-    same-length-3
-    same-length-4
-    same-length-5
-    same-length-6
+    (λ c. search needs)
+    (λ c. search needs)
+    (λ c. search needs)
+    (λ c. search needs)
+    (λ c. search needs)
     returns-2)

@@ -26,18 +26,6 @@ returns c = sym (fault-form (now (c .before .before .before .args .line)) (c .be
 further-requires : tie.Need-further-requires
 further-requires c κs = within (c .before .before .before)
 
-sub-hex-fault : tie.Need-sub-hex-fault
-sub-hex-fault c = search needs
-
-part-hex-fault-start : tie.Need-part-hex-fault-start
-part-hex-fault-start c = search needs
-
-part-hex-fault-end : tie.Need-part-hex-fault-end
-part-hex-fault-end c = search needs
-
-hex-fault-requires : tie.Need-hex-fault-requires
-hex-fault-requires c κs = search needs
-
 returns-2 : tie.Need-returns-2
 returns-2 c =
     let line = now (c .before .before .before .before .before .before .args .line) in
@@ -51,8 +39,8 @@ fault-spec =
     is-colon-requires
     returns
     further-requires
-    sub-hex-fault
-    part-hex-fault-start
-    part-hex-fault-end
-    hex-fault-requires
+    (λ c. search needs)
+    (λ c. search needs)
+    (λ c. search needs)
+    (λ c κs. search needs)
     returns-2)

@@ -17,9 +17,6 @@ use Rattle.gmti_editions.proofs.is_returned.Tie as tie
 enum-told : tie.Need-enum-told
 enum-told c = search needs
 
-enum-known-a : tie.Need-enum-known-a
-enum-known-a c = search needs
-
 returns : tie.Need-returns
 returns c =
     let x = c .before .before .before .before .before .before .args in
@@ -31,12 +28,6 @@ returns c =
     (λ w. simp (not-true (eqb (x .d) (a .0 .1 .0)) (w .1 .taken), and-false))
     (λ w. simp (not-true (eqb (x .t) (a .0 .1 .1 .0)) (w .2 .taken), and-false)))
     (c .if1 .came))
-
-front-requires : tie.Need-front-requires
-front-requires c κs = search needs
-
-same-requires : tie.Need-same-requires
-same-requires c κs = search needs
 
 returns-2 : tie.Need-returns-2
 returns-2 c =
@@ -58,4 +49,4 @@ returns-3 c =
     ))
 
 pub is-returned-spec : {M : Type 1} → statement M
-is-returned-spec = tie.close (tie.spec enum-told enum-known-a returns front-requires same-requires returns-2 returns-3)
+is-returned-spec = tie.close (tie.spec enum-told (λ c. search needs) returns (λ c κs. search needs) (λ c κs. search needs) returns-2 returns-3)

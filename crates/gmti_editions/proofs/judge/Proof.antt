@@ -4,6 +4,7 @@ use native.Mathlib.Omega.{arith}
 use mathlib.Core.Path.{_≡_, sym, ap, _∙_}
 use borrow.Author.Needs.{needs}
 use denote.Ref.{now}
+use Rattle.format.specs.Edition.{asEdition}
 use Rattle.format.specs.declared.Answer.{Answer}
 use Rattle.format.specs.declared.Answer.the-variants.{Accepted}
 use Rattle.format.specs.Answer.{outcome}
@@ -16,38 +17,23 @@ use Rattle.gmti_editions.proofs.judge.Tie as tie
 -- what the Edition 3 reading gave, where it accepts
 reads-3 : (c : tie.After-a3)
     → outcome (Accepted (c .a3 .given .0 .0) (c .a3 .given .0 .1 .0) (c .a3 .given .0 .1 .1 .0) (c .a3 .given .0 .1 .1 .1 .0)) (c .before .before .before .before .before .before .before .before .read .last .1 .1 .0)
-    ≡ read 3 (now (c .before .before .before .before .before .before .before .before .before .before .before .before .before .before .args .l)) (now (c .before .before .before .before .before .before .before .before .before .before .before .before .before .before .args .newer))
+    ≡ read (asEdition 3) (now (c .before .before .before .before .before .before .before .before .before .before .before .before .before .before .args .l)) (now (c .before .before .before .before .before .before .before .before .before .before .before .before .before .before .args .newer))
 reads-3 c =
     let r = c .before .before .before .before .before .before .before .before .read in
     ap (λ (a : Answer). outcome a (r .last .1 .1 .0)) (sym (c .a3 .given .1)) ∙ r .ensures
 
-read-requires : tie.Need-read-requires
-read-requires c κs = search needs
-
-read-requires-2 : tie.Need-read-requires-2
-read-requires-2 c κs = search needs
-
 enum-told : tie.Need-enum-told
 enum-told c = search needs
-
-enum-known-a3 : tie.Need-enum-known-a3
-enum-known-a3 c = search needs
 
 older-verdict-requires : tie.Need-older-verdict-requires
 older-verdict-requires c κs =
     let told = c .before .before .before .before in
     let start = told .before .before .before .before .before .before .before .before .before .before .before .before .before .before in
     let a = told .a3 .given .0 in
-    let within = read-within 3 (now (start .args .l)) (now (start .args .newer)) _ (a .0) (a .1 .0) (a .1 .1 .0) (a .1 .1 .1 .0) (reads-3 told) in (
+    let within = read-within (asEdition 3) (now (start .args .l)) (now (start .args .newer)) _ (a .0) (a .1 .0) (a .1 .1 .0) (a .1 .1 .1 .0) (reads-3 told) in (
       omega (arith, within, told .before .before .before .before .read2 .kept .1 .1 .0, start .pre),
       omega (arith, within, told .before .before .before .before .before .before .before .before .read .kept .1 .1 .0),
     )
-
-same-length : tie.Need-same-length
-same-length c = search needs
-
-same-length-2 : tie.Need-same-length-2
-same-length-2 c = search needs
 
 returns : tie.Need-returns
 returns c =
@@ -58,15 +44,6 @@ returns c =
     let a = c .enum-told .given in
     judged (now (x .l)) (now (x .older)) (now (x .newer)) (now (x .buffer)) _ _ _ _ _ (λ i. c .before .before .before .before .before .before .before .before .before .before .before .before .before .shared-slice-known .given i .fits) (start .pre) (r .ensures) (r2 .ensures)
     (verdict-refused (now (x .l)) (now (x .older)) (now (x .newer)) (now (x .buffer)) _ _ (a .0 .0) (a .0 .1 .0) (a .0 .1 .1 .0) (r .ensures) (a .1))
-
-same-length-3 : tie.Need-same-length-3
-same-length-3 c = search needs
-
-same-length-4 : tie.Need-same-length-4
-same-length-4 c = search needs
-
-same-length-5 : tie.Need-same-length-5
-same-length-5 c = search needs
 
 returns-2 : tie.Need-returns-2
 returns-2 c =
@@ -82,15 +59,15 @@ pub judge-spec : {M : Type 1} → statement M
 judge-spec =
     tie.close
     (tie.spec
-    read-requires
-    read-requires-2
+    (λ c κs. search needs)
+    (λ c κs. search needs)
     enum-told
-    enum-known-a3
+    (λ c. search needs)
     older-verdict-requires
-    same-length
-    same-length-2
+    (λ c. search needs)
+    (λ c. search needs)
     returns
-    same-length-3
-    same-length-4
-    same-length-5
+    (λ c. search needs)
+    (λ c. search needs)
+    (λ c. search needs)
     returns-2)

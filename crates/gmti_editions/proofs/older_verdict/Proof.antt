@@ -19,15 +19,6 @@ use Rattle.gmti_editions.proofs.older_verdict.Tie as tie
 abbrev verdictAt : tie.Start → Verdict
 verdictAt c = olderVerdict (now (c .args .l)) (c .args .s) (c .args .d) (c .args .t) (c .args .n) (c .args .a) (now (c .args .older)) (now (c .args .newer)) (now (c .args .buffer))
 
-enum-known-a : tie.Need-enum-known-a
-enum-known-a c = search needs
-
-refusal-verdict-requires : tie.Need-refusal-verdict-requires
-refusal-verdict-requires c κs = search needs
-
-enum-known-a-2 : tie.Need-enum-known-a-2
-enum-known-a-2 c = search needs
-
 returns : tie.Need-returns
 returns c =
     let x = c .before .before .before .before .before .before .before .before .args in
@@ -42,9 +33,6 @@ returns c =
     (λ w. simp (not-true (eqb (x .n) (a .0 .1 .1 .1 .0)) (w .3 .taken), and-false))))
     (c .if1 .came))
 
-slice-relend-prefix-is-alike : tie.Need-slice-relend-prefix-is-alike
-slice-relend-prefix-is-alike c = search needs
-
 slice-aggregate-is-alike : tie.Need-slice-aggregate-is-alike
 slice-aggregate-is-alike c =
     let start = c .before .before .before .before .before .before .before .before .before .before .before .before in
@@ -55,21 +43,12 @@ slice-aggregate-is-alike-2 c =
     let start = c .before .before .before .before .before .before .before .before .before .before .before .before .before in
     sym (length-take-le (start .args .n) (now (start .args .newer)) (start .pre .1))
 
-is-alike-requires : tie.Need-is-alike-requires
-is-alike-requires c κs = search needs
-
 returns-2 : tie.Need-returns-2
 returns-2 c =
     let x = c .before .before .before .before .before .before .before .before .args in
     let a = c .before .before .a .given in
     c .refusal-verdict .ensures
     ∙ older-refused (now (x .l)) (x .s) (x .d) (x .t) (x .n) (x .a) (now (x .older)) (now (x .newer)) (now (x .buffer)) (a .0 .0) (a .0 .1 .0) (a .0 .1 .1 .0) (a .1)
-
-same-length : tie.Need-same-length
-same-length c = search needs
-
-same-length-2 : tie.Need-same-length-2
-same-length-2 c = search needs
 
 -- the verdict where the counts and the length are the same
 alike-is : (c : tie.After-is-alike) → cond (c .is-alike .result) Alike Broken ≡ verdictAt (c .before .before .before .before .before .before .before .before .before .before .before .before .before .before .before)
@@ -89,12 +68,6 @@ alike-is c =
 returns-3 : tie.Need-returns-3
 returns-3 c = ap (λ (b : Bool). cond b Alike Broken) (sym (c .if5 .taken)) ∙ alike-is (c .before .before .before .before .before)
 
-same-length-3 : tie.Need-same-length-3
-same-length-3 c = search needs
-
-same-length-4 : tie.Need-same-length-4
-same-length-4 c = search needs
-
 returns-4 : tie.Need-returns-4
 returns-4 c = ap (λ (b : Bool). cond b Alike Broken) (sym (c .if5 .left)) ∙ alike-is (c .before .before .before .before .before)
 
@@ -102,18 +75,18 @@ pub older-verdict-spec : {M : Type 1} → statement M
 older-verdict-spec =
     tie.close
     (tie.spec
-    enum-known-a
-    refusal-verdict-requires
-    enum-known-a-2
+    (λ c. search needs)
+    (λ c κs. search needs)
+    (λ c. search needs)
     returns
-    slice-relend-prefix-is-alike
+    (λ c. search needs)
     slice-aggregate-is-alike
     slice-aggregate-is-alike-2
-    is-alike-requires
+    (λ c κs. search needs)
     returns-2
-    same-length
-    same-length-2
+    (λ c. search needs)
+    (λ c. search needs)
     returns-3
-    same-length-3
-    same-length-4
+    (λ c. search needs)
+    (λ c. search needs)
     returns-4)

@@ -14,59 +14,8 @@ use Rattle.gmti_editions.proofs.put_judged.Tie as tie
 enum-told : tie.Need-enum-told
 enum-told c = search needs
 
-put-answer-requires : tie.Need-put-answer-requires
-put-answer-requires c κs = search needs
-
-enum-told-2 : tie.Need-enum-told-2
-enum-told-2 c = search needs
-
-slice-aggregate-copy-all : tie.Need-slice-aggregate-copy-all
-slice-aggregate-copy-all c = search needs
-
-copy-all-requires : tie.Need-copy-all-requires
-copy-all-requires c κs = search needs
-
-add-put-answer : tie.Need-add-put-answer
-add-put-answer c = search needs
-
-put-answer-requires-2 : tie.Need-put-answer-requires-2
-put-answer-requires-2 c κs = search needs
-
-enum-told-3 : tie.Need-enum-told-3
-enum-told-3 c = search needs
-
-slice-aggregate-copy-all-2 : tie.Need-slice-aggregate-copy-all-2
-slice-aggregate-copy-all-2 c = search needs
-
-copy-all-requires-2 : tie.Need-copy-all-requires-2
-copy-all-requires-2 c κs = search needs
-
-add-put-answer-2 : tie.Need-add-put-answer-2
-add-put-answer-2 c = search needs
-
-put-answer-requires-3 : tie.Need-put-answer-requires-3
-put-answer-requires-3 c κs = search needs
-
-enum-told-4 : tie.Need-enum-told-4
-enum-told-4 c = search needs
-
-slice-aggregate-copy-all-3 : tie.Need-slice-aggregate-copy-all-3
-slice-aggregate-copy-all-3 c = search needs
-
-copy-all-requires-3 : tie.Need-copy-all-requires-3
-copy-all-requires-3 c κs = search needs
-
-add-result : tie.Need-add-result
-add-result c = search needs
-
-same-length : tie.Need-same-length
-same-length c = search needs
-
 returns : tie.Need-returns
 returns c = let put = c .before .before .put-answer in under (now (c .before .before .before .before .before .before .before .args .o)) (c .before .before .before .before .before .before .before .args .at) (not-read (c .before .before .before .before .before .before .before .args .j .newer) (c .before .before .before .before .before .before .before .args .j .older) (c .before .before .before .before .enum-told .given .1)) (omega (arith, put .ensures .0 .1)) (put .ensures .0 .0, put .ensures .1)
-
-same-length-2 : tie.Need-same-length-2
-same-length-2 c = search needs
 
 returns-2 : tie.Need-returns-2
 returns-2 c =
@@ -74,17 +23,11 @@ returns-2 c =
     under (now (c .before .before .before .before .before .before .before .before .before .before .before .before .args .o)) (c .before .before .before .before .before .before .before .before .before .before .before .before .args .at) (new (c .before .before .before .before .before .before .before .before .before .before .before .before .args .j .newer) (c .before .before .before .before .before .before .before .before .before .before .before .before .args .j .older) (c .before .before .before .before .before .before .before .before .before .enum-told2 .given .1)) (omega (arith, put .ensures .0 .1))
     (laid-join (110 ∷ 101 ∷ 119 ∷ 32 ∷ []) (answerText (c .before .before .before .before .before .before .before .before .before .before .before .before .args .j .older)) (now (c .before .before .before .before .before .before .before .before .before .before .before .before .args .o)) (c .before .before .before .before .before .before .before .before .before .before .before .before .args .at) (refl, c .before .before .before .before .before .before .copy-all .ensures) (put .ensures .0 .0, put .ensures .1))
 
-same-length-3 : tie.Need-same-length-3
-same-length-3 c = search needs
-
 returns-3 : tie.Need-returns-3
 returns-3 c =
     let put = c .before .before .put-answer3 in
     under (now (c .before .before .before .before .before .before .before .before .before .before .before .before .args .o)) (c .before .before .before .before .before .before .before .before .before .before .before .before .args .at) (alike (c .before .before .before .before .before .before .before .before .before .before .before .before .args .j .newer) (c .before .before .before .before .before .before .before .before .before .before .before .before .args .j .older) (c .before .before .before .before .before .before .before .before .before .enum-told3 .given .1)) (omega (arith, put .ensures .0 .1))
     (laid-join (97 ∷ 108 ∷ 105 ∷ 107 ∷ 101 ∷ 32 ∷ []) (answerText (c .before .before .before .before .before .before .before .before .before .before .before .before .args .j .older)) (now (c .before .before .before .before .before .before .before .before .before .before .before .before .args .o)) (c .before .before .before .before .before .before .before .before .before .before .before .before .args .at) (refl, c .before .before .before .before .before .before .copy-all2 .ensures) (put .ensures .0 .0, put .ensures .1))
-
-same-length-4 : tie.Need-same-length-4
-same-length-4 c = search needs
 
 returns-4 : tie.Need-returns-4
 returns-4 c = under (now (c .before .before .before .before .before .before .before .before .args .o)) (c .before .before .before .before .before .before .before .before .args .at) (broken (c .before .before .before .before .before .before .before .before .args .j .newer) (c .before .before .before .before .before .before .before .before .args .j .older) (c .before .before .before .before .before .enum-told4 .given .1)) (omega arith) (refl, c .before .before .copy-all3 .ensures)
@@ -94,26 +37,26 @@ put-judged-spec =
     tie.close
     (tie.spec
     enum-told
-    put-answer-requires
-    enum-told-2
-    slice-aggregate-copy-all
-    copy-all-requires
-    add-put-answer
-    put-answer-requires-2
-    enum-told-3
-    slice-aggregate-copy-all-2
-    copy-all-requires-2
-    add-put-answer-2
-    put-answer-requires-3
-    enum-told-4
-    slice-aggregate-copy-all-3
-    copy-all-requires-3
-    add-result
-    same-length
+    (λ c κs. search needs)
+    (λ c. search needs)
+    (λ c. search needs)
+    (λ c κs. search needs)
+    (λ c. search needs)
+    (λ c κs. search needs)
+    (λ c. search needs)
+    (λ c. search needs)
+    (λ c κs. search needs)
+    (λ c. search needs)
+    (λ c κs. search needs)
+    (λ c. search needs)
+    (λ c. search needs)
+    (λ c κs. search needs)
+    (λ c. search needs)
+    (λ c. search needs)
     returns
-    same-length-2
+    (λ c. search needs)
     returns-2
-    same-length-3
+    (λ c. search needs)
     returns-3
-    same-length-4
+    (λ c. search needs)
     returns-4)

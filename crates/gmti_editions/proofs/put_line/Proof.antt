@@ -15,18 +15,6 @@ use Rattle.gmti_editions.proofs.put_line.Tie as tie
 kept : (c : tie.After-put-judged) → length (set (c .put-judged .last .0) (c .put-judged .result) 10) ≡ length (now (c .before .before .before .before .before .before .before .before .args .out))
 kept c = length-set {A = ℕ} (c .put-judged .last .0) (c .put-judged .result) 10 ∙ c .put-judged .kept .0 ∙ c .before .before .before .before .put-name .kept .0
 
-put-name-requires : tie.Need-put-name-requires
-put-name-requires c κs = search needs
-
-put-judged-requires : tie.Need-put-judged-requires
-put-judged-requires c κs = search needs
-
-slice-write-out : tie.Need-slice-write-out
-slice-write-out c = search needs
-
-add-result : tie.Need-add-result
-add-result c = search needs
-
 same-length : tie.Need-same-length
 same-length c = kept (c .before .before)
 
@@ -42,4 +30,4 @@ returns c =
 pub put-line-spec : {M : Type 1} → statement M
 put-line-spec =
     tie.close
-    (tie.spec put-name-requires put-judged-requires slice-write-out add-result same-length returns)
+    (tie.spec (λ c κs. search needs) (λ c κs. search needs) (λ c. search needs) (λ c. search needs) same-length returns)

@@ -23,15 +23,6 @@ named c = length-take-le (c .args .name) (now (c .args .line)) (within c)
 further-requires : tie.Need-further-requires
 further-requires c κs = within (c .before .before .before .before .before .before)
 
-sub-unhex : tie.Need-sub-unhex
-sub-unhex c = search needs
-
-part-unhex-start : tie.Need-part-unhex-start
-part-unhex-start c = search needs
-
-part-unhex-end : tie.Need-part-unhex-end
-part-unhex-end c = search needs
-
 unhex-requires : tie.Need-unhex-requires
 unhex-requires c κs =
     let start = c .before .before .before .before .before .before .before .before .before in
@@ -39,35 +30,14 @@ unhex-requires c κs =
     let h = c .before .before .further .result in
     (ap hexFault (hex-from line (start .pre .0 .0) (c .before .before .further .ensures .0)) ∙ start .pre .0 .1, omega (arith, length-take (length line - h) (drop h line), length-drop h line, start .pre .1 .0))
 
-slice-reshare-prefix-judge : tie.Need-slice-reshare-prefix-judge
-slice-reshare-prefix-judge c = search needs
-
 slice-aggregate-judge : tie.Need-slice-aggregate-judge
 slice-aggregate-judge c = let u = c .before .before .before .unhex in sym (length-take-le (u .result) (u .last .1 .0) (u .ensures .0 .1))
-
-judge-requires : tie.Need-judge-requires
-judge-requires c κs = search needs
 
 slice-aggregate-put-line : tie.Need-slice-aggregate-put-line
 slice-aggregate-put-line c = sym (named (c .before .before .before .before .before .before .before .before .before .before .before .before .before .before .before .before .before .before .before .before .before .before .before .before .before))
 
 put-line-requires : tie.Need-put-line-requires
 put-line-requires c κs = omega (arith, named (c .before .before .before .before .before .before .before .before .before .before .before .before .before .before .before .before .before .before .before .before .before .before .before .before .before), within (c .before .before .before .before .before .before .before .before .before .before .before .before .before .before .before .before .before .before .before .before .before .before .before .before .before), c .before .before .before .before .before .before .before .before .before .before .before .before .before .before .before .before .before .before .before .before .before .before .before .before .before .pre .1 .1 .1)
-
-same-length : tie.Need-same-length
-same-length c = search needs
-
-same-length-2 : tie.Need-same-length-2
-same-length-2 c = search needs
-
-same-length-3 : tie.Need-same-length-3
-same-length-3 c = search needs
-
-same-length-4 : tie.Need-same-length-4
-same-length-4 c = search needs
-
-same-length-5 : tie.Need-same-length-5
-same-length-5 c = search needs
 
 returns : tie.Need-returns
 returns c =
@@ -86,18 +56,18 @@ put-packet-spec =
     tie.close
     (tie.spec
     further-requires
-    sub-unhex
-    part-unhex-start
-    part-unhex-end
+    (λ c. search needs)
+    (λ c. search needs)
+    (λ c. search needs)
     unhex-requires
-    slice-reshare-prefix-judge
+    (λ c. search needs)
     slice-aggregate-judge
-    judge-requires
+    (λ c κs. search needs)
     slice-aggregate-put-line
     put-line-requires
-    same-length
-    same-length-2
-    same-length-3
-    same-length-4
-    same-length-5
+    (λ c. search needs)
+    (λ c. search needs)
+    (λ c. search needs)
+    (λ c. search needs)
+    (λ c. search needs)
     returns)

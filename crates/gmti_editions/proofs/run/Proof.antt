@@ -13,17 +13,11 @@ Inv-loop input₀ packet₀ older₀ newer₀ buffer₀ out₀ held₀ goes-on�
 abbrev μ-loop : tie.MeasureT-loop
 μ-loop input₀ packet₀ older₀ newer₀ buffer₀ out₀ held₀ goes-on₀ turns₀ t12 input packet older newer buffer out held goes-on turns = turns
 
-nothing-requires : tie.Need-nothing-requires Inv-loop μ-loop
-nothing-requires c κs = search needs
-
 loop-holds : tie.Need-loop-holds Inv-loop μ-loop
 loop-holds c = (omega arith, omega arith)
 
 slice-aggregate-next-line : tie.Need-slice-aggregate-next-line Inv-loop μ-loop
 slice-aggregate-next-line c = refl
-
-next-line-requires : tie.Need-next-line-requires Inv-loop μ-loop
-next-line-requires c κs = search needs
 
 write-next-requires : tie.Need-write-next-requires Inv-loop μ-loop
 write-next-requires c κs = (c .before .before .before .before .before .before .before .next-line .ensures .0, (omega arith, (omega arith, omega arith)))
@@ -49,10 +43,10 @@ run-spec =
     (tie.spec
     Inv-loop
     μ-loop
-    nothing-requires
+    (λ c κs. search needs)
     loop-holds
     slice-aggregate-next-line
-    next-line-requires
+    (λ c κs. search needs)
     write-next-requires
     sub-turns
     loop-less

@@ -13,35 +13,20 @@ use Rattle.gmti_editions.proofs.write_long.Tie as tie
 named : (c : tie.After-put-unread-arg2) → length (take (c .before .before .find .result) (now (c .before .before .before .before .before .args .front))) ≡ c .before .before .find .result
 named c = length-take-le (c .before .before .find .result) (now (c .before .before .before .before .before .args .front)) (c .before .before .find .ensures .1 .1)
 
-find-requires : tie.Need-find-requires
-find-requires c κs = search needs
-
 slice-aggregate-put-unread : tie.Need-slice-aggregate-put-unread
 slice-aggregate-put-unread c = sym (named c)
 
 put-unread-requires : tie.Need-put-unread-requires
 put-unread-requires c κs = omega (arith, named c, c .before .before .find .ensures .1 .1, c .before .before .before .before .before .pre)
 
-front-requires : tie.Need-front-requires
-front-requires c κs = search needs
-
-write-requires : tie.Need-write-requires
-write-requires c κs = search needs
-
-same-length : tie.Need-same-length
-same-length c = search needs
-
-returns : tie.Need-returns
-returns c = search needs
-
 pub write-long-spec : {M : Type 1} → statement M
 write-long-spec =
     tie.close
     (tie.spec
-    find-requires
+    (λ c κs. search needs)
     slice-aggregate-put-unread
     put-unread-requires
-    front-requires
-    write-requires
-    same-length
-    returns)
+    (λ c κs. search needs)
+    (λ c κs. search needs)
+    (λ c. search needs)
+    (λ c. search needs))

@@ -8,9 +8,6 @@ use Rattle.gmti_sheet.proofs.Words.{other-length, names-1, names-3, nam
 returns : tie.Need-returns
 returns c = other-length _ (c .if1 .taken)
 
-shared-slice-read-letter : tie.Need-shared-slice-read-letter
-shared-slice-read-letter c = search needs
-
 returns-2 : tie.Need-returns-2
 returns-2 c = names-1 _ (c .before .before .if1 .left) (c .if2 .taken)
 
@@ -22,4 +19,4 @@ returns-4 c = names-none _ (c .before .before .before .if1 .left) (c .before .if
 
 pub edition-of-spec : {M : Type 1} → statement M
 edition-of-spec =
-    tie.close (tie.spec returns shared-slice-read-letter returns-2 returns-3 returns-4)
+    tie.close (tie.spec returns (λ c. search needs) returns-2 returns-3 returns-4)

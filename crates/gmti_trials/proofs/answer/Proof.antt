@@ -27,41 +27,11 @@ lent-within c = omega (arith, length-front (c .before .before .before .before .b
 lent-is : (c : tie.After-called) → length (take (c .before .before .before .before .before .before .before .before .before .before .before .before .before .before .before .before .before .before .parse .result .lent) (c .called .last .1 .1 .1 .0 ++ drop (c .before .before .before .before .before .before .before .before .before .before .before .before .before .before .before .before .before .before .parse .result .lent) (c .before .before .before .before .before .fill .last .0))) ≡ c .before .before .before .before .before .before .before .before .before .before .before .before .before .before .before .before .before .before .parse .result .lent
 lent-is c = length-back (c .called .last .1 .1 .1 .0) (c .before .before .before .before .before .fill .last .0) (c .before .before .before .before .before .before .before .before .before .before .before .before .before .before .before .before .before .before .parse .result .lent) (lent-fits (c .before .before .before .before .before)) (c .called .kept .1 .1 .1 .0)
 
-find-requires : tie.Need-find-requires
-find-requires c κs = search needs
-
-parse-requires : tie.Need-parse-requires
-parse-requires c κs = search needs
-
-enum-told : tie.Need-enum-told
-enum-told c = search needs
-
 slice-aggregate-put-unread : tie.Need-slice-aggregate-put-unread
 slice-aggregate-put-unread c = sym (named (c .before .before .before .before))
 
 put-unread-requires : tie.Need-put-unread-requires
 put-unread-requires c κs = omega (arith, named (c .before .before .before .before), c .before .before .before .before .find .ensures .1 .1, c .before .before .before .before .before .before .before .before .before .pre .1 .1)
-
-same-length : tie.Need-same-length
-same-length c = search needs
-
-returns : tie.Need-returns
-returns c = search needs
-
-sub-hex-fault : tie.Need-sub-hex-fault
-sub-hex-fault c = search needs
-
-part-hex-fault-start : tie.Need-part-hex-fault-start
-part-hex-fault-start c = search needs
-
-part-hex-fault-end : tie.Need-part-hex-fault-end
-part-hex-fault-end c = search needs
-
-hex-fault-requires : tie.Need-hex-fault-requires
-hex-fault-requires c κs = search needs
-
-enum-told-2 : tie.Need-enum-told-2
-enum-told-2 c = search needs
 
 slice-aggregate-put-unread-2 : tie.Need-slice-aggregate-put-unread-2
 slice-aggregate-put-unread-2 c = sym (named (c .before .before .before .before .before .before .before .before))
@@ -69,44 +39,17 @@ slice-aggregate-put-unread-2 c = sym (named (c .before .before .before .before .
 put-unread-requires-2 : tie.Need-put-unread-requires-2
 put-unread-requires-2 c κs = omega (arith, named (c .before .before .before .before .before .before .before .before), c .before .before .before .before .before .before .before .before .find .ensures .1 .1, c .before .before .before .before .before .before .before .before .before .before .before .before .before .pre .1 .1)
 
-same-length-2 : tie.Need-same-length-2
-same-length-2 c = search needs
-
-returns-2 : tie.Need-returns-2
-returns-2 c = search needs
-
-sub-unhex : tie.Need-sub-unhex
-sub-unhex c = search needs
-
-part-unhex-start : tie.Need-part-unhex-start
-part-unhex-start c = search needs
-
-part-unhex-end : tie.Need-part-unhex-end
-part-unhex-end c = search needs
-
 unhex-requires : tie.Need-unhex-requires
 unhex-requires c κs =
     let line = now (c .before .before .before .before .before .before .before .before .before .before .before .before .before .before .args .line) in
     let hex = c .before .before .before .before .before .before .before .before .parse .result .hex in
     (sym (c .before .before .before .before .hex-fault .ensures) ∙ c .before .before .enum-told2 .given .1, omega (arith, length-take (length line - hex) (drop hex line), length-drop hex line, c .before .before .before .before .before .before .before .before .before .before .before .before .before .before .pre .0))
 
-fill-requires : tie.Need-fill-requires
-fill-requires c κs = search needs
-
-slice-reshare-prefix-called : tie.Need-slice-reshare-prefix-called
-slice-reshare-prefix-called c = search needs
-
 slice-aggregate-called : tie.Need-slice-aggregate-called
 slice-aggregate-called c = let u = c .before .before .before .before .before .before .before .unhex in sym (length-take-le (u .result) (u .last .1 .0) (u .ensures .0 .1))
 
-slice-relend-prefix-called : tie.Need-slice-relend-prefix-called
-slice-relend-prefix-called c = search needs
-
 slice-aggregate-called-2 : tie.Need-slice-aggregate-called-2
 slice-aggregate-called-2 c = sym (length-take-le (c .before .before .before .before .before .before .before .before .before .before .before .before .before .before .before .before .before .parse .result .lent) (c .before .before .before .before .fill .last .0) (lent-fits (c .before .before .before .before)))
-
-called-requires : tie.Need-called-requires
-called-requires c κs = search needs
 
 slice-aggregate-put-line : tie.Need-slice-aggregate-put-line
 slice-aggregate-put-line c = sym (named (c .before .before .before .before .before .before .before .before .before .before .before .before .before .before .before .before .before .before .before .before .before .before .before))
@@ -120,53 +63,41 @@ slice-aggregate-put-line-2 c = sym (lent-is (c .before .before .before .before .
 put-line-requires : tie.Need-put-line-requires
 put-line-requires c κs = omega (arith, lent-is (c .before .before .before .before .before), named (c .before .before .before .before .before .before .before .before .before .before .before .before .before .before .before .before .before .before .before .before .before .before .before .before), c .before .before .before .before .before .before .before .before .before .before .before .before .before .before .before .before .before .before .before .before .before .before .before .before .find .ensures .1 .1, c .before .before .before .before .before .before .before .before .before .before .before .before .before .before .before .before .before .before .before .before .before .before .before .parse .ensures .0, c .before .before .before .before .before .before .before .before .before .before .before .before .before .before .before .before .before .before .before .before .before .before .before .before .before .before .before .before .before .pre .1 .1)
 
-same-length-3 : tie.Need-same-length-3
-same-length-3 c = search needs
-
-same-length-4 : tie.Need-same-length-4
-same-length-4 c = search needs
-
-same-length-5 : tie.Need-same-length-5
-same-length-5 c = search needs
-
-returns-3 : tie.Need-returns-3
-returns-3 c = search needs
-
 pub answer-spec : {M : Type 1} → statement M
 answer-spec =
     tie.close
     (tie.spec
-    find-requires
-    parse-requires
-    enum-told
+    (λ c κs. search needs)
+    (λ c κs. search needs)
+    (λ c. search needs)
     slice-aggregate-put-unread
     put-unread-requires
-    same-length
-    returns
-    sub-hex-fault
-    part-hex-fault-start
-    part-hex-fault-end
-    hex-fault-requires
-    enum-told-2
+    (λ c. search needs)
+    (λ c. search needs)
+    (λ c. search needs)
+    (λ c. search needs)
+    (λ c. search needs)
+    (λ c κs. search needs)
+    (λ c. search needs)
     slice-aggregate-put-unread-2
     put-unread-requires-2
-    same-length-2
-    returns-2
-    sub-unhex
-    part-unhex-start
-    part-unhex-end
+    (λ c. search needs)
+    (λ c. search needs)
+    (λ c. search needs)
+    (λ c. search needs)
+    (λ c. search needs)
     unhex-requires
-    fill-requires
-    slice-reshare-prefix-called
+    (λ c κs. search needs)
+    (λ c. search needs)
     slice-aggregate-called
-    slice-relend-prefix-called
+    (λ c. search needs)
     slice-aggregate-called-2
-    called-requires
+    (λ c κs. search needs)
     slice-aggregate-put-line
     slice-reshare-prefix-put-line
     slice-aggregate-put-line-2
     put-line-requires
-    same-length-3
-    same-length-4
-    same-length-5
-    returns-3)
+    (λ c. search needs)
+    (λ c. search needs)
+    (λ c. search needs)
+    (λ c. search needs))

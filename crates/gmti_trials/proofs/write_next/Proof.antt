@@ -9,9 +9,6 @@ use Rattle.lines.proofs.Steps.{line-within, line-length}
 use Rattle.gmti_trials.proofs.write_next.Statement.{statement}
 use Rattle.gmti_trials.proofs.write_next.Tie as tie
 
-enum-known-next : tie.Need-enum-known-next
-enum-known-next c = search needs
-
 -- the line lies within what is held
 within : (c : tie.After-known-told) → (c .before .next .given .0 .0 ≤ c .before .next .given .0 .1 .0) × (c .before .next .given .0 .1 .0 ≤ length (now (c .before .before .before .before .before .before .before .args .input)))
 within c = line-within (c .before .next .given .1) (c .before .before .before .before .before .before .before .pre .0)
@@ -28,68 +25,26 @@ part-answer-end c = omega (arith, within c)
 answer-requires : tie.Need-answer-requires
 answer-requires c κs = let l = line-length (now (c .before .before .before .before .before .before .before .before .before .before .before .args .input)) (within (c .before .before .before .before)) in let w = within (c .before .before .before .before) in let p = c .before .before .before .before .before .before .before .before .before .before .before .pre in (omega (arith, l, w, p), (omega (arith, p), omega (arith, l, w, p)))
 
-front-requires : tie.Need-front-requires
-front-requires c κs = search needs
-
-write-requires : tie.Need-write-requires
-write-requires c κs = search needs
-
-enum-told : tie.Need-enum-told
-enum-told c = search needs
-
-write-long-requires : tie.Need-write-long-requires
-write-long-requires c κs = search needs
-
-enum-told-2 : tie.Need-enum-told-2
-enum-told-2 c = search needs
-
-enum-told-3 : tie.Need-enum-told-3
-enum-told-3 c = search needs
-
-same-length : tie.Need-same-length
-same-length c = search needs
-
-same-length-2 : tie.Need-same-length-2
-same-length-2 c = search needs
-
-same-length-3 : tie.Need-same-length-3
-same-length-3 c = search needs
-
-returns : tie.Need-returns
-returns c = search needs
-
-same-length-4 : tie.Need-same-length-4
-same-length-4 c = search needs
-
-returns-2 : tie.Need-returns-2
-returns-2 c = search needs
-
-returns-3 : tie.Need-returns-3
-returns-3 c = search needs
-
-returns-4 : tie.Need-returns-4
-returns-4 c = search needs
-
 pub write-next-spec : {M : Type 1} → statement M
 write-next-spec =
     tie.close
     (tie.spec
-    enum-known-next
+    (λ c. search needs)
     sub-answer
     part-answer-start
     part-answer-end
     answer-requires
-    front-requires
-    write-requires
-    enum-told
-    write-long-requires
-    enum-told-2
-    enum-told-3
-    same-length
-    same-length-2
-    same-length-3
-    returns
-    same-length-4
-    returns-2
-    returns-3
-    returns-4)
+    (λ c κs. search needs)
+    (λ c κs. search needs)
+    (λ c. search needs)
+    (λ c κs. search needs)
+    (λ c. search needs)
+    (λ c. search needs)
+    (λ c. search needs)
+    (λ c. search needs)
+    (λ c. search needs)
+    (λ c. search needs)
+    (λ c. search needs)
+    (λ c. search needs)
+    (λ c. search needs)
+    (λ c. search needs))

@@ -35,9 +35,6 @@ searched c = length-take-le (c .before .before .got .given .0 .0) (c .before .be
 read-some-requires : tie.Need-read-some-requires Inv-loop μ-loop
 read-some-requires c κs = omega (arith, c .before .before .loop .inv, c .before .before .before .before .before .pre)
 
-enum-known-got : tie.Need-enum-known-got Inv-loop μ-loop
-enum-known-got c = search needs
-
 slice-reshare-prefix-find : tie.Need-slice-reshare-prefix-find Inv-loop μ-loop
 slice-reshare-prefix-find c = omega (arith, came c)
 
@@ -59,9 +56,6 @@ same-length c = c .before .before .line-from .kept .1 .0 ∙ kept (c .before .be
 returns : tie.Need-returns Inv-loop μ-loop
 returns c = c .before .before .line-from .ensures
 
-enum-told : tie.Need-enum-told Inv-loop μ-loop
-enum-told c = search needs
-
 last-requires : tie.Need-last-requires Inv-loop μ-loop
 last-requires c κs = tt
 
@@ -70,9 +64,6 @@ same-length-2 c = kept (c .before .before .before .before .before)
 
 returns-2 : tie.Need-returns-2 Inv-loop μ-loop
 returns-2 c = c .last .ensures (length (c .before .before .before .before .before .read-some .last .1 .0)) tt
-
-enum-told-2 : tie.Need-enum-told-2 Inv-loop μ-loop
-enum-told-2 c = search needs
 
 last-requires-2 : tie.Need-last-requires-2 Inv-loop μ-loop
 last-requires-2 c κs = tt
@@ -109,7 +100,7 @@ line-behind-spec =
     μ-loop
     loop-holds
     read-some-requires
-    enum-known-got
+    (λ c. search needs)
     slice-reshare-prefix-find
     slice-aggregate-find
     find-requires
@@ -117,11 +108,11 @@ line-behind-spec =
     line-from-requires
     same-length
     returns
-    enum-told
+    (λ c. search needs)
     last-requires
     same-length-2
     returns-2
-    enum-told-2
+    (λ c. search needs)
     last-requires-2
     same-length-3
     returns-3

@@ -46,9 +46,6 @@ searched c = length-take-le (c .before .before .before .before .before .before .
 read-some-requires : tie.Need-read-some-requires Inv-loop μ-loop
 read-some-requires c κs = room (c .before .before .loop .b) (c .before .before .loop .end) (omega arith)
 
-enum-known-got : tie.Need-enum-known-got Inv-loop μ-loop
-enum-known-got c = search needs
-
 add-read : tie.Need-add-read Inv-loop μ-loop
 add-read c = record { fits = omega (arith, came c) }
 
@@ -76,32 +73,17 @@ loop-less c = omega (arith, came (c .before .before .before), kept (c .before .b
 loop-again : tie.Need-loop-again Inv-loop μ-loop
 loop-again c = (omega (arith, came (c .before .before .before), kept (c .before .before .before .before .before .before .before .before)), kept (c .before .before .before .before .before .before .before .before) ∙ c .before .before .before .before .before .before .before .before .before .before .before .loop .inv .1)
 
-enum-told : tie.Need-enum-told Inv-loop μ-loop
-enum-told c = search needs
-
-at-end-requires : tie.Need-at-end-requires Inv-loop μ-loop
-at-end-requires c κs = search needs
-
 same-length-2 : tie.Need-same-length-2 Inv-loop μ-loop
 same-length-2 c = kept (c .before .before .before .before .before) ∙ c .before .before .before .before .before .before .before .before .loop .inv .1
 
 returns-2 : tie.Need-returns-2 Inv-loop μ-loop
 returns-2 c = step-more (c .at-end .result) (omega (arith, kept (c .before .before .before .before .before), c .before .before .before .before .before .before .before .before .loop .inv .0)) (c .at-end .ensures)
 
-enum-told-2 : tie.Need-enum-told-2 Inv-loop μ-loop
-enum-told-2 c = search needs
-
-last-requires : tie.Need-last-requires Inv-loop μ-loop
-last-requires c κs = search needs
-
 same-length-3 : tie.Need-same-length-3 Inv-loop μ-loop
 same-length-3 c = kept (c .before .before .before .before .before) ∙ c .before .before .before .before .before .before .before .before .loop .inv .1
 
 returns-3 : tie.Need-returns-3 Inv-loop μ-loop
 returns-3 c = c .last .ensures _ tt
-
-last-requires-2 : tie.Need-last-requires-2 Inv-loop μ-loop
-last-requires-2 c κs = search needs
 
 same-length-4 : tie.Need-same-length-4 Inv-loop μ-loop
 same-length-4 c = c .before .before .loop .inv .1
@@ -120,7 +102,7 @@ read-line-spec =
     part-read-some-start
     part-read-some-end
     read-some-requires
-    enum-known-got
+    (λ c. search needs)
     add-read
     slice-reshare-prefix-find
     slice-aggregate-find
@@ -130,14 +112,14 @@ read-line-spec =
     returns
     loop-less
     loop-again
-    enum-told
-    at-end-requires
+    (λ c. search needs)
+    (λ c κs. search needs)
     same-length-2
     returns-2
-    enum-told-2
-    last-requires
+    (λ c. search needs)
+    (λ c κs. search needs)
     same-length-3
     returns-3
-    last-requires-2
+    (λ c κs. search needs)
     same-length-4
     returns-4)

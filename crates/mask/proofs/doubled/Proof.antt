@@ -7,15 +7,6 @@ use Rattle.mask.proofs.Sets.{doubled-yes, doubled-no33, doubled-no34}
 use Rattle.mask.proofs.doubled.Statement.{statement}
 use Rattle.mask.proofs.doubled.Tie as tie
 
-has-requires : tie.Need-has-requires
-has-requires c κs = search needs
-
-has-requires-2 : tie.Need-has-requires-2
-has-requires-2 c κs = search needs
-
-common-requires : tie.Need-common-requires
-common-requires c κs = search needs
-
 returns : tie.Need-returns
 returns c n lo hi =
     let h33 = sym (c .before .before .before .before .has .ensures) ∙ c .before .before .before .if1 .taken in
@@ -30,4 +21,4 @@ returns-3 c n lo hi = doubled-no33 (c .before .before .args .mask) n (sym (c .be
 
 pub doubled-spec : {M : Type 1} → statement M
 doubled-spec =
-    tie.close (tie.spec has-requires has-requires-2 common-requires returns returns-2 returns-3)
+    tie.close (tie.spec (λ c κs. search needs) (λ c κs. search needs) (λ c κs. search needs) returns returns-2 returns-3)

@@ -22,14 +22,8 @@ target-le c = omega (arith, announced-le (c .before .before .args .mask) 32 targ
 product-le : (c : tie.After-target-length) → c .before .before .args .targets * c .target-length .result ≤ 65535 * 255
 product-le c = let t : c .before .before .args .targets ≤ 65535 = omega arith in mul-le-mul t (target-le c)
 
-dwell-length-requires : tie.Need-dwell-length-requires
-dwell-length-requires c κs = search needs
-
 add-result : tie.Need-add-result
 add-result c = omega (arith, dwell-le c)
-
-target-length-requires : tie.Need-target-length-requires
-target-length-requires c κs = search needs
 
 mul-result : tie.Need-mul-result
 mul-result c = omega (arith, product-le c)
@@ -45,9 +39,9 @@ pub dwell-size-spec : {M : Type 1} → statement M
 dwell-size-spec =
     tie.close
     (tie.spec
-    dwell-length-requires
+    (λ c κs. search needs)
     add-result
-    target-length-requires
+    (λ c κs. search needs)
     mul-result
     add-result-2
     returns)

@@ -2,97 +2,56 @@
 -- Assumes nothing.
 use borrow.Author.Needs.{needs}
 use lib.Dec.{eqb}
-use Rattle.mask.specs.Mask.{between, isRequired}
+use Rattle.octets.specs.Octets.{between}
+use Rattle.mask.specs.Mask.{isRequired}
 use Rattle.mask.proofs.Bit.{set-or}
 use Rattle.mask.proofs.Sets.{fields}
-use Rattle.mask.proofs.Words.{required-word, reserved-word, last-word, d12-says, d15-says, d18-says, d21-says, deltas-says, places-says, classes-says, d28-says}
+use Rattle.mask.proofs.Words.{required-word, reserved-word, last-word, d12-says, d15-says, d18-says, d21-says, d10-says, places-says, classes-says, d28-says}
 use Rattle.mask.proofs.Sentence.{in-order}
 use Rattle.mask.proofs.faults.Statement.{statement}
 use Rattle.mask.proofs.faults.Tie as tie
 
-missing-requires : tie.Need-missing-requires
-missing-requires c κs = search needs
-
-common-requires : tie.Need-common-requires
-common-requires c κs = search needs
-
-common-requires-2 : tie.Need-common-requires-2
-common-requires-2 c κs = search needs
-
-in-version1-requires : tie.Need-in-version1-requires
-in-version1-requires c κs = search needs
-
-gaps-requires : tie.Need-gaps-requires
-gaps-requires c κs = search needs
-
-gaps-requires-2 : tie.Need-gaps-requires-2
-gaps-requires-2 c κs = search needs
-
-gaps-requires-3 : tie.Need-gaps-requires-3
-gaps-requires-3 c κs = search needs
-
-gaps-requires-4 : tie.Need-gaps-requires-4
-gaps-requires-4 c κs = search needs
-
-gaps-requires-5 : tie.Need-gaps-requires-5
-gaps-requires-5 c κs = search needs
-
-gaps-requires-6 : tie.Need-gaps-requires-6
-gaps-requires-6 c κs = search needs
-
-gaps-requires-7 : tie.Need-gaps-requires-7
-gaps-requires-7 c κs = search needs
-
-gaps-requires-8 : tie.Need-gaps-requires-8
-gaps-requires-8 c κs = search needs
-
-in-version1-requires-2 : tie.Need-in-version1-requires-2
-in-version1-requires-2 c κs = search needs
-
-doubled-requires : tie.Need-doubled-requires
-doubled-requires c κs = search needs
-
 returns : tie.Need-returns
 returns c n lo hi =
-    let a = c .before .before .before .before .before .before .before .before .before .before .before .before .before .before .args in
-    let h = c .before .before .before .before .before .before .before .before .before .before .before .before .before .before .fits .mask .fits in
+    let d28 = c .before .before in
+    let classes = d28 .before in
+    let places = classes .before in
+    let d10 = places .before in
+    let d21 = d10 .before in
+    let d18 = d21 .before in
+    let d15 = d18 .before in
+    let d12 = d15 .before in
+    let version1 = d12 .before in
+    let last = version1 .before in
+    let reserved = last .before in
+    let required = reserved .before in
+    let m = required .before .args .mask in
+    let h = required .before .fits .mask .fits in
     simp (
       set-or,
-      c .before .before .before .before .before .before .before .before .before .before .before .before .before .missing .ensures,
-      c .before .before .before .before .before .before .before .before .before .before .before .before .common .ensures,
-      c .before .before .before .before .before .before .before .before .before .before .in-version1 .ensures,
-      c .before .before .before .before .before .before .before .before .before .before .before .common2 .ensures,
-      d12-says (a .mask) h n lo hi _ (c .before .before .before .before .before .before .before .before .before .gaps .ensures n),
-      d15-says (a .mask) h n lo hi _ (c .before .before .before .before .before .before .before .before .gaps2 .ensures n),
-      d18-says (a .mask) h n lo hi _ (c .before .before .before .before .before .before .before .gaps3 .ensures n),
-      d21-says (a .mask) h n lo hi _ (c .before .before .before .before .before .before .gaps4 .ensures n),
-      deltas-says (a .mask) h n lo hi _ (c .before .before .before .before .before .gaps5 .ensures n),
-      places-says (a .mask) h n lo hi _ (c .before .before .before .before .gaps6 .ensures n),
-      classes-says (a .mask) h n lo hi _ (c .before .before .before .gaps7 .ensures n),
+      required .missing .ensures,
+      reserved .common .ensures,
+      version1 .in-version1 .ensures,
+      last .common2 .ensures,
+      d12-says m h n lo hi _ (d12 .gaps .ensures n),
+      d15-says m h n lo hi _ (d15 .gaps2 .ensures n),
+      d18-says m h n lo hi _ (d18 .gaps3 .ensures n),
+      d21-says m h n lo hi _ (d21 .gaps4 .ensures n),
+      d10-says m h n lo hi _ (d10 .gaps5 .ensures n),
+      places-says m h n lo hi _ (places .gaps6 .ensures n),
+      classes-says m h n lo hi _ (classes .gaps7 .ensures n),
       c .before .in-version12 .ensures,
-      d28-says (a .mask) h n lo hi _ (c .before .before .gaps8 .ensures n),
+      d28-says m h n lo hi _ (d28 .gaps8 .ensures n),
       c .doubled .ensures n lo hi,
       fields _ isRequired required-word n lo hi,
       fields _ (between 50 65) reserved-word n lo hi,
       fields _ (λ n. eqb n 49) last-word n lo hi,
-    ) (in-order (a .version) (a .mask) n)
+    ) (in-order (required .before .args .version) m n)
 
 pub faults-spec : {M : Type 1} → statement M
 faults-spec =
     tie.close
-    (tie.spec
-    missing-requires
-    common-requires
-    common-requires-2
-    in-version1-requires
-    gaps-requires
-    gaps-requires-2
-    gaps-requires-3
-    gaps-requires-4
-    gaps-requires-5
-    gaps-requires-6
-    gaps-requires-7
-    gaps-requires-8
-    in-version1-requires-2
-    doubled-requires
-    returns)
+    (tie.spec (λ c κs. search needs) (λ c κs. search needs) (λ c κs. search needs) (λ c κs. search needs)
+    (λ c κs. search needs) (λ c κs. search needs) (λ c κs. search needs) (λ c κs. search needs)
+    (λ c κs. search needs) (λ c κs. search needs) (λ c κs. search needs) (λ c κs. search needs)
+    (λ c κs. search needs) (λ c κs. search needs) returns)

@@ -9,17 +9,8 @@ use lib.ListN.{getD}
 use Rattle.mask.proofs.four.Statement.{statement}
 use Rattle.mask.proofs.four.Tie as tie
 
-sub-i : tie.Need-sub-i
-sub-i c = search needs
-
-shr-i : tie.Need-shr-i
-shr-i c = search needs
-
 element-copy-out-wide : tie.Need-element-copy-out-wide
 element-copy-out-wide c = mask-lt (c .args .mask / 2 ^ (62 - c .args .n)) 4
-
-wide-requires : tie.Need-wide-requires
-wide-requires c κs = search needs
 
 returns : tie.Need-returns
 returns c =
@@ -27,4 +18,4 @@ returns c =
     (c .wide .ensures .0 ∙ ap (λ (i : ℕ). getD (now (a .lengths)) i 0) (and-mask (a .mask / 2 ^ (62 - a .n)) 4), c .wide .ensures .1)
 
 pub four-spec : {M : Type 1} → statement M
-four-spec = tie.close (tie.spec sub-i shr-i element-copy-out-wide wide-requires returns)
+four-spec = tie.close (tie.spec (λ c. search needs) (λ c. search needs) element-copy-out-wide (λ c κs. search needs) returns)

@@ -9,15 +9,9 @@ use Rattle.mask.specs.Fields.{announced}
 use Rattle.mask.proofs.has.Statement.{statement}
 use Rattle.mask.proofs.has.Tie as tie
 
-sub-result : tie.Need-sub-result
-sub-result c = search needs
-
-shr-result : tie.Need-shr-result
-shr-result c = search needs
-
 returns : tie.Need-returns
 unfolding announced
 returns c = ap (λ (m : ℕ). eqb m 1) (and-mask (c .args .mask / 2 ^ (65 - c .args .n)) 1)
 
 pub has-spec : {M : Type 1} → statement M
-has-spec = tie.close (tie.spec sub-result shr-result returns)
+has-spec = tie.close (tie.spec (λ c. search needs) (λ c. search needs) returns)

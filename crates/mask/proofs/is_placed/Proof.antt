@@ -17,18 +17,6 @@ pair-is c =
     (λ w. rw (sym (c .before .has .ensures) ∙ w .0 .left) (w .1 ∙ w .0 .left))
     (c .if1 .came)
 
-has-requires : tie.Need-has-requires
-has-requires c κs = search needs
-
-has-requires-2 : tie.Need-has-requires-2
-has-requires-2 c κs = search needs
-
-has-requires-3 : tie.Need-has-requires-3
-has-requires-3 c κs = search needs
-
-has-requires-4 : tie.Need-has-requires-4
-has-requires-4 c κs = search needs
-
 returns : tie.Need-returns
 unfolding isPlaced
 returns c = rw (sym (pair-is (c .before)) ∙ c .if2 .taken) (c .if2 .taken)
@@ -49,10 +37,10 @@ pub is-placed-spec : {M : Type 1} → statement M
 is-placed-spec =
     tie.close
     (tie.spec
-    has-requires
-    has-requires-2
-    has-requires-3
-    has-requires-4
+    (λ c κs. search needs)
+    (λ c κs. search needs)
+    (λ c κs. search needs)
+    (λ c κs. search needs)
     returns
     returns-2
     returns-3)

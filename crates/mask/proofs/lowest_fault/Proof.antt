@@ -8,9 +8,6 @@ use Rattle.mask.proofs.Lowest.{holds-nowhere, holds-first}
 use Rattle.mask.proofs.lowest_fault.Statement.{statement}
 use Rattle.mask.proofs.lowest_fault.Tie as tie
 
-faults-requires : tie.Need-faults-requires
-faults-requires c κs = search needs
-
 add-result : tie.Need-add-result
 add-result c = omega (arith, leading-le 64 (c .before .faults .result))
 
@@ -27,4 +24,4 @@ returns-2 c =
     holds-first (isFault (a .version) (a .mask)) (c .before .faults .result) (c .before .faults .ensures) (c .if1 .left) (omega arith)
 
 pub lowest-fault-spec : {M : Type 1} → statement M
-lowest-fault-spec = tie.close (tie.spec faults-requires add-result returns returns-2)
+lowest-fault-spec = tie.close (tie.spec (λ c κs. search needs) add-result returns returns-2)

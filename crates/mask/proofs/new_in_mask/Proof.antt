@@ -23,17 +23,11 @@ last-is c =
     ap (λ (b : Bool). cond b 49 0) (c .has .ensures)
     ∙ new-last (c .before .before .before .args .mask) (c .before .before .gaps .result) (word-is (c .before .before)) (c .before .if1 .left)
 
-gaps-requires : tie.Need-gaps-requires
-gaps-requires c κs = search needs
-
 add-result : tie.Need-add-result
 add-result c = omega (arith, leading-le 64 (c .before .gaps .result))
 
 returns : tie.Need-returns
 returns c = new-gap (c .before .before .args .mask) (c .before .gaps .result) (word-is (c .before)) (c .if1 .taken) (omega arith)
-
-has-requires : tie.Need-has-requires
-has-requires c κs = search needs
 
 returns-2 : tie.Need-returns-2
 returns-2 c = rw (c .if2 .taken) at (last-is (c .before))
@@ -43,4 +37,4 @@ returns-3 c = rw (c .if2 .left) at (last-is (c .before))
 
 pub new-in-mask-spec : {M : Type 1} → statement M
 new-in-mask-spec =
-    tie.close (tie.spec gaps-requires add-result returns has-requires returns-2 returns-3)
+    tie.close (tie.spec (λ c κs. search needs) add-result returns (λ c κs. search needs) returns-2 returns-3)

@@ -8,15 +8,9 @@ use Rattle.octets.specs.Octets.{twos, signed}
 use Rattle.octets.proofs.get_i16.Statement.{statement}
 use Rattle.octets.proofs.get_i16.Tie as tie
 
-get-u16-requires : tie.Need-get-u16-requires
-get-u16-requires c κs = search needs
-
-signed16-requires : tie.Need-signed16-requires
-signed16-requires c κs = search needs
-
 returns : tie.Need-returns
 unfolding signed
 returns c = toZ-ofZ (sfits-of {w = w16} (c .signed16 .ok)) ∙ c .signed16 .ensures ∙ ap (twos 2) (c .before .get-u16 .ensures)
 
 pub get-i16-spec : {M : Type 1} → statement M
-get-i16-spec = tie.close (tie.spec get-u16-requires signed16-requires returns)
+get-i16-spec = tie.close (tie.spec (λ c κs. search needs) (λ c κs. search needs) returns)

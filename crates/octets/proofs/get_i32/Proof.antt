@@ -8,15 +8,9 @@ use Rattle.octets.specs.Octets.{twos, signed}
 use Rattle.octets.proofs.get_i32.Statement.{statement}
 use Rattle.octets.proofs.get_i32.Tie as tie
 
-get-u32-requires : tie.Need-get-u32-requires
-get-u32-requires c κs = search needs
-
-signed32-requires : tie.Need-signed32-requires
-signed32-requires c κs = search needs
-
 returns : tie.Need-returns
 unfolding signed
 returns c = toZ-ofZ (sfits-of {w = w32} (c .signed32 .ok)) ∙ c .signed32 .ensures ∙ ap (twos 4) (c .before .get-u32 .ensures)
 
 pub get-i32-spec : {M : Type 1} → statement M
-get-i32-spec = tie.close (tie.spec get-u32-requires signed32-requires returns)
+get-i32-spec = tie.close (tie.spec (λ c κs. search needs) (λ c κs. search needs) returns)

@@ -8,22 +8,10 @@ use Rattle.position.specs.Always.{isAlwaysLatitude}
 use Rattle.position.proofs.is_always_latitude.Statement.{statement}
 use Rattle.position.proofs.is_always_latitude.Tie as tie
 
-unsigned-requires : tie.Need-unsigned-requires
-unsigned-requires c κs = search needs
-
-mul-result : tie.Need-mul-result
-mul-result c = search needs
-
-unsigned-requires-2 : tie.Need-unsigned-requires-2
-unsigned-requires-2 c κs = search needs
-
-add-result : tie.Need-add-result
-add-result c = search needs
-
 returns : tie.Need-returns
 unfolding isAlwaysLatitude
 returns c = ap₂ (λ (m n : ℕ). leb (m * 2 ^ 15 + n) (2 ^ 31)) (c .before .unsigned .ensures) (c .unsigned2 .ensures)
 
 pub is-always-latitude-spec : {M : Type 1} → statement M
 is-always-latitude-spec =
-    tie.close (tie.spec unsigned-requires mul-result unsigned-requires-2 add-result returns)
+    tie.close (tie.spec (λ c κs. search needs) (λ c. search needs) (λ c κs. search needs) (λ c. search needs) returns)

@@ -18,9 +18,6 @@ size-at c = latitude-size (c .args .x .0) (c .pre)
 mul-y : tie.Need-mul-y
 mul-y c = let (x64, y64, h64, s64, r64, r32) = scale-fits (c .before .before .args .x .0) (size-at (c .before .before)) in simp toZ-ofZ y64
 
-half-requires : tie.Need-half-requires
-half-requires c κs = search needs
-
 add-result : tie.Need-add-result
 add-result c = sum-fits (c .before .before .before .args .x .0) (c .half .result) (size-at (c .before .before .before)) (sfits-of {w = w64} {z = c .half .result} (c .half .ok)) (c .half .ensures)
 
@@ -34,4 +31,4 @@ returns : tie.Need-returns
 returns c = result-is (c .before .before .before .args .x .0) (c .half .result) (size-at (c .before .before .before)) (sfits-of {w = w64} {z = c .half .result} (c .half .ok)) (c .half .ensures)
 
 pub latitude-micro-spec : {M : Type 1} → statement M
-latitude-micro-spec = tie.close (tie.spec mul-y half-requires add-result div-result cast-result returns)
+latitude-micro-spec = tie.close (tie.spec mul-y (λ c κs. search needs) add-result div-result cast-result returns)

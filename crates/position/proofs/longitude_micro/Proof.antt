@@ -5,18 +5,6 @@ use Rattle.position.proofs.Rounding.{full-circle, within-circle}
 use Rattle.position.proofs.longitude_micro.Statement.{statement}
 use Rattle.position.proofs.longitude_micro.Tie as tie
 
-cast-m : tie.Need-cast-m
-cast-m c = search needs
-
-mul-m : tie.Need-mul-m
-mul-m c = search needs
-
-add-m : tie.Need-add-m
-add-m c = search needs
-
-cast-result : tie.Need-cast-result
-cast-result c = search needs
-
 returns : tie.Need-returns
 returns c = full-circle (c .before .before .args .x .0) (c .if1 .taken)
 
@@ -24,4 +12,4 @@ returns-2 : tie.Need-returns-2
 returns-2 c = within-circle (c .before .before .args .x .0) (c .if1 .left)
 
 pub longitude-micro-spec : {M : Type 1} → statement M
-longitude-micro-spec = tie.close (tie.spec cast-m mul-m add-m cast-result returns returns-2)
+longitude-micro-spec = tie.close (tie.spec (λ c. search needs) (λ c. search needs) (λ c. search needs) (λ c. search needs) returns returns-2)

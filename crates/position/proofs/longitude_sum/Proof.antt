@@ -25,14 +25,8 @@ known c =
 cast-z : tie.Need-cast-z
 cast-z c = let (d16, d64, s, f, p64, t64, t, l64) = known c in simp toZ-ofZ d64
 
-cast-z-2 : tie.Need-cast-z-2
-cast-z-2 c = search needs
-
 mul-z : tie.Need-mul-z
 mul-z c = let (d16, d64, s, f, p64, t64, t, l64) = known (c .before) in simp (toZ-ofZ, toZ-pos) p64
-
-cast-z-3 : tie.Need-cast-z-3
-cast-z-3 c = search needs
 
 add-z : tie.Need-add-z
 add-z c = let (d16, d64, s, f, p64, t64, t, l64) = known (c .before .before) in simp (toZ-ofZ, toZ-pos) t64
@@ -45,9 +39,6 @@ cast-t9 c =
     let (d16, d64, s, f, p64, t64, t, l64) = known (c .before .before) in
     simp (toZ-ofZ, toZ-pos) (lift-cast (z-of (c .before .before)) t)
 
-cast-t11 : tie.Need-cast-t11
-cast-t11 c = search needs
-
 returns : tie.Need-returns
 unfolding longitudeSum
 returns c =
@@ -56,4 +47,4 @@ returns c =
 
 pub longitude-sum-spec : {M : Type 1} → statement M
 longitude-sum-spec =
-    tie.close (tie.spec cast-z cast-z-2 mul-z cast-z-3 add-z add-t5 cast-t9 cast-t11 returns)
+    tie.close (tie.spec cast-z (λ c. search needs) mul-z (λ c. search needs) add-z add-t5 cast-t9 (λ c. search needs) returns)

@@ -34,8 +34,5 @@ cast-result-2 c = let s = c .before .before .before .before .before in let f = f
 returns : tie.Need-returns
 returns c = let f = fits-at (c .before .before .before .before .before) in let n = known c .0 in simp toZ-ofZ (known c .3)
 
-returns-2 : tie.Need-returns-2
-returns-2 c = search needs
-
 pub unsigned-spec : {M : Type 1} → statement M
-unsigned-spec = tie.close (tie.spec sub-result cast-result cast-result-2 returns returns-2)
+unsigned-spec = tie.close (tie.spec sub-result cast-result cast-result-2 returns (λ c. search needs))

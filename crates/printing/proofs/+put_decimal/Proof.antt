@@ -1,7 +1,6 @@
 -- `printing::put_decimal` meets its contract, by the one proof of its cycle of calls. The measure is the number: a tenth of it is less.
 -- Assumes nothing.
 use native.Mathlib.Omega.{arith}
-use denote.Ref.{now}
 use Rattle.printing.proofs.Lines.{put-one, put-more, length-one, length-more}
 use borrow.Author.Needs.{needs}
 use Prim.Native.Nat.{ℕ, _<_}
@@ -25,111 +24,22 @@ abbrev put-decimal-below : ℕ → In 1 put-decimal-kinds.ps
 put-decimal-below t =
     and 1 put-decimal-kinds.ps (falls 1 put-decimal-kinds.ps _<_ μ-put-decimal t) put-decimal.Pre
 
-put-decimal-digit-requires : (t : ℕ) → put-decimal-lts.Need-digit-requires (
-  digit-reads.Asked,
-  digit-reads.Learnt,
-  put-decimal-below t,
-  put-decimal.Post,
-) (put-decimal-at t) put-decimal.Post
-put-decimal-digit-requires t c κs = search needs
-
-put-decimal-slice-write-o : (t : ℕ) → put-decimal-lts.Need-slice-write-o (
-  digit-reads.Asked,
-  digit-reads.Learnt,
-  put-decimal-below t,
-  put-decimal.Post,
-) (put-decimal-at t) put-decimal.Post
-put-decimal-slice-write-o t c = omega (arith, length-one (c .before .before .before .args .n) (c .before .if1 .taken))
-
-put-decimal-add-result : (t : ℕ) → put-decimal-lts.Need-add-result (
-  digit-reads.Asked,
-  digit-reads.Learnt,
-  put-decimal-below t,
-  put-decimal.Post,
-) (put-decimal-at t) put-decimal.Post
-put-decimal-add-result t c = search needs
-
-put-decimal-put-decimal-requires : (t : ℕ) → put-decimal-lts.Need-put-decimal-requires (
-  digit-reads.Asked,
-  digit-reads.Learnt,
-  put-decimal-below t,
-  put-decimal.Post,
-) (put-decimal-at t) put-decimal.Post
-put-decimal-put-decimal-requires t c κs = (omega arith, omega (arith, length-more (c .before .before .before .args .n) (omega arith)))
-
-put-decimal-digit-requires-2 : (t : ℕ) → put-decimal-lts.Need-digit-requires-2 (
-  digit-reads.Asked,
-  digit-reads.Learnt,
-  put-decimal-below t,
-  put-decimal.Post,
-) (put-decimal-at t) put-decimal.Post
-put-decimal-digit-requires-2 t c κs = search needs
-
-put-decimal-slice-write-o-2 : (t : ℕ) → put-decimal-lts.Need-slice-write-o-2 (
-  digit-reads.Asked,
-  digit-reads.Learnt,
-  put-decimal-below t,
-  put-decimal.Post,
-) (put-decimal-at t) put-decimal.Post
-put-decimal-slice-write-o-2 t c = omega (arith, c .before .before .before .put-decimal .kept, c .before .before .before .put-decimal .ensures .0, c .before .before .before .before .before .before .before .pre .1, length-more (c .before .before .before .before .before .before .before .args .n) (omega arith))
-
-put-decimal-add-result-2 : (t : ℕ) → put-decimal-lts.Need-add-result-2 (
-  digit-reads.Asked,
-  digit-reads.Learnt,
-  put-decimal-below t,
-  put-decimal.Post,
-) (put-decimal-at t) put-decimal.Post
-put-decimal-add-result-2 t c = record { fits = omega (arith, c .before .before .before .put-decimal .ensures .0, c .before .before .before .before .before .before .before .pre .1, length-more (c .before .before .before .before .before .before .before .args .n) (omega arith)) }
-
-put-decimal-same-length : (t : ℕ) → put-decimal-lts.Need-same-length (
-  digit-reads.Asked,
-  digit-reads.Learnt,
-  put-decimal-below t,
-  put-decimal.Post,
-) (put-decimal-at t) put-decimal.Post
-put-decimal-same-length t c = search needs
-
-put-decimal-returns : (t : ℕ) → put-decimal-lts.Need-returns (
-  digit-reads.Asked,
-  digit-reads.Learnt,
-  put-decimal-below t,
-  put-decimal.Post,
-) (put-decimal-at t) put-decimal.Post
-put-decimal-returns t c = put-one (now (c .before .before .before .args .o)) (c .before .before .before .args .at) (c .before .before .before .args .n) (omega arith) (c .digit .ensures)
-
-put-decimal-same-length-2 : (t : ℕ) → put-decimal-lts.Need-same-length-2 (
-  digit-reads.Asked,
-  digit-reads.Learnt,
-  put-decimal-below t,
-  put-decimal.Post,
-) (put-decimal-at t) put-decimal.Post
-put-decimal-same-length-2 t c = search needs
-
-put-decimal-returns-2 : (t : ℕ) → put-decimal-lts.Need-returns-2 (
-  digit-reads.Asked,
-  digit-reads.Learnt,
-  put-decimal-below t,
-  put-decimal.Post,
-) (put-decimal-at t) put-decimal.Post
-put-decimal-returns-2 t c = put-more (now (c .before .before .before .before .before .before .before .args .o)) (c .before .before .before .before .before .before .before .args .at) (c .before .before .before .before .before .before .before .args .n) (omega arith) (c .digit2 .ensures) (c .before .before .before .put-decimal .ensures)
-
 pub +put-decimal-spec : {M : Type 1} → statement M
-+put-decimal-spec = close μ-put-decimal λ t. put-decimal-lts.spec (
-  digit-reads.Asked,
-  digit-reads.Learnt,
-  put-decimal-below t,
-  put-decimal.Post,
-)
-    (put-decimal-at t)
-    put-decimal.Post
-    (put-decimal-digit-requires t)
-    (put-decimal-slice-write-o t)
-    (put-decimal-add-result t)
-    (put-decimal-put-decimal-requires t)
-    (put-decimal-digit-requires-2 t)
-    (put-decimal-slice-write-o-2 t)
-    (put-decimal-add-result-2 t)
-    (put-decimal-same-length t)
-    (put-decimal-returns t)
-    (put-decimal-same-length-2 t)
-    (put-decimal-returns-2 t)
++put-decimal-spec = close μ-put-decimal λ t. put-decimal-lts.spec (digit-reads.Asked, digit-reads.Learnt, put-decimal-below t, put-decimal.Post) (put-decimal-at t) put-decimal.Post
+    (λ c κs. search needs)
+    (λ c. omega (arith, length-one (c .before .before .before .args .n) (c .before .if1 .taken)))
+    (λ c. search needs)
+    (λ c κs. (omega arith, omega (arith, length-more (c .before .before .before .args .n) (omega arith))))
+    (λ c κs. search needs)
+    (λ c.
+    let put = c .before .before .before in
+    let start = put .before .before .before .before in
+    omega (arith, put .put-decimal .kept, put .put-decimal .ensures .0, length-more (start .args .n) (omega arith)))
+    (λ c.
+    let put = c .before .before .before in
+    let start = put .before .before .before .before in
+    record { fits = omega (arith, put .put-decimal .ensures .0, length-more (start .args .n) (omega arith)) })
+    (λ c. search needs)
+    (λ c. put-one _ _ _ (omega arith) (c .digit .ensures))
+    (λ c. search needs)
+    (λ c. put-more _ _ _ (omega arith) (c .digit2 .ensures) (c .before .before .before .put-decimal .ensures))

@@ -1,28 +1,24 @@
 -- `printing::record_line` meets its contract. A target has a line, every other record none.
 -- Assumes nothing.
-use mathlib.Core.Path.{refl}
-use Rattle.printing.proofs.Records.{target-body, target-record, other-record}
 use native.Mathlib.Omega.{arith}
-use denote.Ref.{now}
 use borrow.Author.Needs.{needs}
+use borrow.Author.Tests.{ne-eqb}
+use Rattle.printing.specs.Printing.{recordLine}
+use Rattle.printing.proofs.Lines.{put-none, put-within}
 use Rattle.printing.proofs.record_line.Statement.{statement}
 use Rattle.printing.proofs.record_line.Tie as tie
 
-target-line-requires : tie.Need-target-line-requires
-target-line-requires c κs = let e = target-body (c .before .before .before .before .args .kind) _ (c .before .if1 .taken) (c .before .before .before .before .pre .1) in (omega (arith, e, c .before .before .before .before .pre .0), omega (arith, e))
-
-same-length : tie.Need-same-length
-same-length c = search needs
-
 returns : tie.Need-returns
+unfolding recordLine
 returns c =
-    let a = c .before .before .before .before .before .before .before .args in
-    let h = c .before .before .target-line .ensures in
-    let e = target-body (a .kind) _ (c .before .before .before .before .if1 .taken) (c .before .before .before .before .before .before .before .pre .1) in
-    rw (target-record (a .kind) (now (a .b)) (c .before .before .before .before .if1 .taken)) ((h .0 .0, omega (arith, h .0 .1, e)), h .1)
+    let line = c .before .before in
+    rw (line .before .before .if1 .taken) (line .target-line .ensures)
 
 returns-2 : tie.Need-returns-2
-returns-2 c = let a = c .before .before .before .args in rw (other-record (a .kind) (now (a .b)) (c .if1 .left)) ((omega arith, omega arith), refl)
+unfolding recordLine
+returns-2 c = rw (ne-eqb _ 4 (c .if1 .left)) (put-within (put-none _ _) (omega arith))
 
 pub record-line-spec : {M : Type 1} → statement M
-record-line-spec = tie.close (tie.spec target-line-requires same-length returns returns-2)
+record-line-spec =
+    tie.close
+    (tie.spec (λ c κs. rw (c .before .if1 .taken) at (c .before .before .before .before .pre)) (λ c. search needs) returns returns-2)

@@ -9,18 +9,11 @@ use borrow.Author.Needs.{needs}
 use Rattle.records.proofs.header_record.Statement.{statement}
 use Rattle.records.proofs.header_record.Tie as tie
 
-put-byte-requires : tie.Need-put-byte-requires
-put-byte-requires c κs = search needs
-
-copy32-requires : tie.Need-copy32-requires
-copy32-requires c κs = search needs
-
-same-length : tie.Need-same-length
-same-length c = search needs
-
 returns : tie.Need-returns
 unfolding bodyLength headerRecord
-returns c = let a = c .before .before .before .before .before .before .before .before .before .before .args in record-copied 1 32 (now (a .l)) (now (a .o)) refl (omega arith) (c .before .before .before .before .before .before .put-byte .ensures) (c .before .before .copy32 .ensures)
+returns c =
+    let kind = c .before .before .before .before .before .before in let a = kind .before .before .before .before .args in
+    record-copied 1 32 (now (a .l)) (now (a .o)) refl (omega arith) (kind .put-byte .ensures) (c .before .before .copy32 .ensures)
 
 pub header-record-spec : {M : Type 1} → statement M
-header-record-spec = tie.close (tie.spec put-byte-requires copy32-requires same-length returns)
+header-record-spec = tie.close (tie.spec (λ c κs. search needs) (λ c κs. search needs) (λ c. search needs) returns)

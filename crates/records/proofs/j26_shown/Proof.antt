@@ -5,9 +5,6 @@ use borrow.Author.Needs.{needs}
 use Rattle.records.proofs.j26_shown.Statement.{statement}
 use Rattle.records.proofs.j26_shown.Tie as tie
 
-is-older-requires : tie.Need-is-older-requires
-is-older-requires c κs = search needs
-
 returns : tie.Need-returns
 returns c = rw (sym (c .before .is-older .ensures) ∙ c .if1 .taken)
 
@@ -15,4 +12,4 @@ returns-2 : tie.Need-returns-2
 returns-2 c = rw (sym (c .before .is-older .ensures) ∙ c .if1 .left)
 
 pub j26-shown-spec : {M : Type 1} → statement M
-j26-shown-spec = tie.close (tie.spec is-older-requires returns returns-2)
+j26-shown-spec = tie.close (tie.spec (λ c κs. search needs) returns returns-2)

@@ -9,18 +9,11 @@ use borrow.Author.Needs.{needs}
 use Rattle.records.proofs.location_records.Statement.{statement}
 use Rattle.records.proofs.location_records.Tie as tie
 
-put-byte-requires : tie.Need-put-byte-requires
-put-byte-requires c κs = search needs
-
-copy23-requires : tie.Need-copy23-requires
-copy23-requires c κs = search needs
-
-same-length : tie.Need-same-length
-same-length c = search needs
-
 returns : tie.Need-returns
 unfolding bodyLength
-returns c = let a = c .before .before .before .before .before .before .before .before .before .before .args in record-copied 10 23 (now (a .b)) (now (a .o)) refl (omega arith) (c .before .before .before .before .before .before .put-byte .ensures) (c .before .before .copy23 .ensures)
+returns c =
+    let kind = c .before .before .before .before .before .before in let a = kind .before .before .before .before .args in
+    record-copied 10 23 (now (a .b)) (now (a .o)) refl (omega arith) (kind .put-byte .ensures) (c .before .before .copy23 .ensures)
 
 pub location-records-spec : {M : Type 1} → statement M
-location-records-spec = tie.close (tie.spec put-byte-requires copy23-requires same-length returns)
+location-records-spec = tie.close (tie.spec (λ c κs. search needs) (λ c κs. search needs) (λ c. search needs) returns)

@@ -9,18 +9,11 @@ use borrow.Author.Needs.{needs}
 use Rattle.records.proofs.test_records.Statement.{statement}
 use Rattle.records.proofs.test_records.Tie as tie
 
-put-byte-requires : tie.Need-put-byte-requires
-put-byte-requires c κs = search needs
-
-copy14-requires : tie.Need-copy14-requires
-copy14-requires c κs = search needs
-
-same-length : tie.Need-same-length
-same-length c = search needs
-
 returns : tie.Need-returns
 unfolding bodyLength
-returns c = let a = c .before .before .before .before .before .before .before .before .before .before .args in record-copied 9 14 (now (a .b)) (now (a .o)) refl (omega arith) (c .before .before .before .before .before .before .put-byte .ensures) (c .before .before .copy14 .ensures)
+returns c =
+    let kind = c .before .before .before .before .before .before in let a = kind .before .before .before .before .args in
+    record-copied 9 14 (now (a .b)) (now (a .o)) refl (omega arith) (kind .put-byte .ensures) (c .before .before .copy14 .ensures)
 
 pub test-records-spec : {M : Type 1} → statement M
-test-records-spec = tie.close (tie.spec put-byte-requires copy14-requires same-length returns)
+test-records-spec = tie.close (tie.spec (λ c κs. search needs) (λ c κs. search needs) (λ c. search needs) returns)

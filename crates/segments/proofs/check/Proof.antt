@@ -1,7 +1,7 @@
 -- `segments::check` meets its contract. The loop keeps that the answer from here on, with the counts so far, is the answer of the whole.
 -- Assumes nothing.
 use borrow.Author.Needs.{needs}
-use Prim.Native.Nat.{ℕ, _+_, _-_, _*_, _≤_, _<_, zero-le}
+use Prim.Native.Nat.{ℕ, _+_, _-_, _*_, _≤_, zero-le}
 use mathlib.Core.Path.{_≡_, refl, sym, _∙_}
 use mathlib.Core.List.{List}
 use native.Mathlib.Omega.{arith}
@@ -10,22 +10,25 @@ use lib.ListN.{length, drop, length-drop}
 use Rattle.octets.proofs.ByteLists.{drop-bytes}
 use Rattle.octets.proofs.Parts.{tail-is}
 use Rattle.format.specs.declared.Reading.{Reading}
+use Rattle.format.specs.Sheet.{recordLength}
 use Rattle.format.specs.Reader.{parse}
-use Rattle.segments.specs.Walk.{answerFrom}
-use Rattle.segments.proofs.Walking.{IsGood, Fit, fit, here-good, here-bad, after-good, from-bad, from-end}
+use Rattle.segments.specs.declared.Dwells.{Dwells}
+use Rattle.segments.specs.Walk.{noDwells, Among, answerFrom}
+use Rattle.segments.proofs.Counting.{past-among}
+use Rattle.segments.proofs.Walking.{IsGood, here-good, Fit, fit, from-good, from-bad, from-end}
 use Rattle.segments.proofs.check.Statement.{statement}
 use Rattle.segments.proofs.check.Tie as tie
 
 -- k bounds the segments that are left
-pub record Counted (r : Reading) (l : List ℕ) (at segments dwells targets n : ℕ) : Type 0 where
+pub record Counted (r : Reading) (l : List ℕ) (at segments : ℕ) (dwells : Dwells) (targets n : ℕ) : Type 0 where
   pub k : ℕ
   pub within : at ≤ length l
   pub fuel : length l ≤ at + k
   pub segments-le : segments ≤ at
-  pub dwells-le : dwells ≤ at
+  pub dwells-le : Among segments dwells
   pub targets-le : targets ≤ 65535 * at
-  pub length-le : n ≤ 33 + 3000000 * at
-  pub rest : answerFrom r (parse r k (drop at l)) segments dwells targets n ≡ answerFrom r (parse r (length l) l) 0 0 0 33
+  pub length-le : n ≤ recordLength 1 + 3000000 * at
+  pub rest : answerFrom r (parse r k (drop at l)) segments dwells targets n ≡ answerFrom r (parse r (length l) l) 0 noDwells 0 (recordLength 1)
 
 abbrev Inv-loop : tie.InvT-loop
 Inv-loop r l at₀ segments₀ dwells₀ targets₀ length₀ at segments dwells targets n = Counted r l at segments dwells targets n
@@ -33,115 +36,97 @@ Inv-loop r l at₀ segments₀ dwells₀ targets₀ length₀ at segments dwells
 abbrev μ-loop : tie.MeasureT-loop
 μ-loop r l at₀ segments₀ dwells₀ targets₀ length₀ at segments dwells targets n = length l - at
 
-add-length : tie.Need-add-length Inv-loop μ-loop
-add-length c = search needs
+-- a turn, from the place where the segment is known to be good
+abbrev place : tie.After-known-told2 Inv-loop μ-loop → tie.At-loop Inv-loop μ-loop
+place c = c .before .before .before .before .before .before
 
--- at the place where the segment is known to be good
-good : (c : tie.After-known-told2 Inv-loop μ-loop)
-    → let a = c .before .before .before .before .before .before .before .before .args in
-    let g = c .before .size .given .0 in
-    IsGood (a .r) (drop (c .before .before .before .before .before .before .loop .at) (now (a .l))) (g .0) (g .1 .0) (g .1 .1 .0) (g .1 .1 .1 .0)
-good c =
-    let a = c .before .before .before .before .before .before .before .before .args in
-    let at = c .before .before .before .before .before .before .loop .at in
-    here-good (a .r) (now (a .l)) _ at _ _ _ _ (tail-is at (now (a .l))) (c .before .before .before .segment-at .ensures) (c .before .size .given .1)
-
-sized : (c : tie.After-known-told2 Inv-loop μ-loop)
-    → let a = c .before .before .before .before .before .before .before .before .args in
-    let g = c .before .size .given .0 in
-    Fit (drop (c .before .before .before .before .before .before .loop .at) (now (a .l))) (g .0) (g .1 .0) (g .1 .1 .0) (g .1 .1 .1 .0)
-sized c =
-    let b = c .before .before .before .before .before .before .before .before in
-    let at = c .before .before .before .before .before .before .loop .at in
-    let h : length (drop at (now (b .args .l))) ≤ 65536 = rw length-drop (omega (arith, b .pre)) in
-    fit (b .args .r) (drop at (now (b .args .l))) _ _ _ _ h (drop-bytes at (now (b .args .l)) (λ i. c .before .before .before .before .before .before .before .shared-slice-known .given i .fits)) (good c)
+abbrev start : tie.After-known-told2 Inv-loop μ-loop → tie.Start Inv-loop μ-loop
+start c = place c .before .before
 
 loop-holds : tie.Need-loop-holds Inv-loop μ-loop
 loop-holds c =
     let l = now (c .before .args .l) in
     record { k = length l; within = zero-le; fuel = omega arith; segments-le = zero-le; dwells-le = zero-le; targets-le = zero-le; length-le = omega arith; rest = refl }
 
-sub-segment-at : tie.Need-sub-segment-at Inv-loop μ-loop
-sub-segment-at c = omega arith
+sub-t : tie.Need-sub-t Inv-loop μ-loop
+sub-t c = omega arith
 
-part-segment-at-start : tie.Need-part-segment-at-start Inv-loop μ-loop
-part-segment-at-start c = omega arith
-
-part-segment-at-end : tie.Need-part-segment-at-end Inv-loop μ-loop
-part-segment-at-end c = search needs
+part-t-start : tie.Need-part-t-start Inv-loop μ-loop
+part-t-start c = omega arith
 
 segment-at-requires : tie.Need-segment-at-requires Inv-loop μ-loop
 segment-at-requires c κs =
-    let b = c .before .before .before .before in
-    let at = c .before .before .loop .at in
-    rw (tail-is at (now (b .args .l)), length-drop) (omega (arith, b .pre))
+    let i = c .before .before in
+    let s = i .before .before in
+    rw (tail-is (i .loop .at) (now (s .args .l)), length-drop) (omega (arith, s .pre))
 
-enum-known-number : tie.Need-enum-known-number Inv-loop μ-loop
-enum-known-number c = search needs
-
-add-t20 : tie.Need-add-t20 Inv-loop μ-loop
-add-t20 c =
-    let i = c .before .before .before .before .before .before .loop .inv in
-    omega (arith, i .segments-le, i .within, c .before .before .before .before .before .before .before .before .pre)
+add-t19 : tie.Need-add-t19 Inv-loop μ-loop
+add-t19 c =
+    let i = c .before .before .before .before .before .before in
+    omega (arith, i .loop .inv .segments-le, i .loop .inv .within, i .before .before .pre)
 
 returns : tie.Need-returns Inv-loop μ-loop
 returns c =
-    let a = c .before .before .before .before .before .before .before .before .args in
-    let l = c .before .before .before .before .before .before .loop in
-    let i = l .inv in
-    let left : 0 < length (drop (l .at) (now (a .l))) = rw length-drop (omega arith) in
-    sym (from-bad (a .r) (i .k) (drop (l .at) (now (a .l))) left (omega (arith, i .fuel)) (l .segments) (l .dwells) (l .targets) (l .length) _ _
-    (here-bad (a .r) (now (a .l)) _ (l .at) _ _ (tail-is (l .at) (now (a .l))) (c .before .before .before .segment-at .ensures) (c .before .number .given .1)))
-    ∙ i .rest
+    let found = c .before .before .before in
+    let l = found .before .before .before .loop in
+    let s = found .before .before .before .before .before in
+    from-bad (s .args .r) (now (s .args .l)) _ (l .at) (tail-is (l .at) (now (s .args .l))) (found .segment-at .ensures) (l .inv .k) (found .before .before .loop-test .taken) (omega (arith, l .inv .fuel)) (l .segments) (l .dwells) (l .targets) (l .length) _ _ (c .before .number .given .1)
+    ∙ l .inv .rest
 
-enum-known-size : tie.Need-enum-known-size Inv-loop μ-loop
-enum-known-size c = search needs
+-- the segment is good
+good : (c : tie.After-known-told2 Inv-loop μ-loop) → let g = c .before .size .given .0 in
+    IsGood (start c .args .r) (drop (place c .loop .at) (now (start c .args .l))) (g .0) (g .1 .0) (g .1 .1 .0)
+good c =
+    let l = now (start c .args .l) in
+    here-good (start c .args .r) l _ (place c .loop .at) (tail-is (place c .loop .at) l) (c .before .before .before .segment-at .ensures) _ _ _ (c .before .size .given .1)
+
+-- and adds no more than this
+sized : (c : tie.After-known-told2 Inv-loop μ-loop) → let g = c .before .size .given .0 in
+    Fit (drop (place c .loop .at) (now (start c .args .l))) (g .0) (g .1 .0) (g .1 .1 .0)
+sized c =
+    let l = now (start c .args .l) in
+    let at = place c .loop .at in
+    let h : length (drop at l) ≤ 65536 = rw length-drop (omega (arith, start c .pre)) in
+    fit (start c .args .r) (drop at l) _ _ _ h (drop-bytes at l (λ i. place c .before .shared-slice-known .given i .fits)) (good c)
 
 add-segments : tie.Need-add-segments Inv-loop μ-loop
-add-segments c =
-    let i = c .before .before .before .before .before .before .loop .inv in
-    omega (arith, i .segments-le, i .within, c .before .before .before .before .before .before .before .before .pre)
+add-segments c = omega (arith, place c .loop .inv .segments-le, place c .loop .inv .within, start c .pre)
 
-add-dwells : tie.Need-add-dwells Inv-loop μ-loop
-add-dwells c =
-    let i = c .before .before .before .before .before .before .loop .inv in
-    omega (arith, sized c .one, i .dwells-le, i .within, c .before .before .before .before .before .before .before .before .pre)
+dwells-past-requires : tie.Need-dwells-past-requires Inv-loop μ-loop
+dwells-past-requires c κs =
+    let i = place c .loop .inv in
+    (rw (tail-is (place c .loop .at) (now (start c .args .l))) (good c .rows), omega (arith, i .dwells-le, i .segments-le, i .within, start c .pre))
 
 add-targets : tie.Need-add-targets Inv-loop μ-loop
-add-targets c =
-    let i = c .before .before .before .before .before .before .loop .inv in
-    omega (arith, sized c .few, i .targets-le, i .within, c .before .before .before .before .before .before .before .before .pre)
+add-targets c = let g = c .before in let i = place g .loop .inv in omega (arith, sized g .few, i .targets-le, i .within, start g .pre)
 
-add-length-2 : tie.Need-add-length-2 Inv-loop μ-loop
-add-length-2 c =
-    let i = c .before .before .before .before .before .before .loop .inv in
-    omega (arith, sized c .short, i .length-le, i .within, c .before .before .before .before .before .before .before .before .pre)
+add-length : tie.Need-add-length Inv-loop μ-loop
+add-length c = let g = c .before in let i = place g .loop .inv in omega (arith, sized g .short, i .length-le, i .within, start g .pre)
 
 add-at : tie.Need-add-at Inv-loop μ-loop
-add-at c =
-    let i = c .before .before .before .before .before .before .loop .inv in
-    omega (arith, simp length-drop at (sized c .within), i .within, c .before .before .before .before .before .before .before .before .pre)
+add-at c = let g = c .before in let i = place g .loop .inv in omega (arith, simp length-drop at (sized g .within), i .within, start g .pre)
 
 loop-less : tie.Need-loop-less Inv-loop μ-loop
-loop-less c = omega (arith, sized c .header)
+loop-less c = omega (arith, sized (c .before) .header)
 
 loop-again : tie.Need-loop-again Inv-loop μ-loop
 loop-again c =
-    let a = c .before .before .before .before .before .before .before .before .args in
-    let l = c .before .before .before .before .before .before .loop in
+    let g = c .before in
+    let a = start g .args in
+    let l = place g .loop in
     let i = l .inv in
-    let f = sized c in
-    let w = simp length-drop at (f .within) in
-    let z = c .before .size .given .0 .0 in
+    let f = sized g in
     record {
       k = i .k - 1;
-      within = omega (arith, w, i .within);
+      within = omega (arith, simp length-drop at (f .within), i .within);
       fuel = omega (arith, f .header, i .fuel);
       segments-le = omega (arith, f .header, i .segments-le);
-      dwells-le = omega (arith, f .header, f .one, i .dwells-le);
+      dwells-le = past-among (l .segments) (l .dwells) _ _ (c .dwells-past .ensures) (i .dwells-le);
       targets-le = omega (arith, f .header, f .few, i .targets-le);
       length-le = omega (arith, f .header, f .short, i .length-le);
-      rest = after-good (a .r) (i .k) (now (a .l)) (l .at) (l .segments) (l .dwells) (l .targets) (l .length) z _ _ _ (omega arith) (omega (arith, i .fuel)) (good c) ∙ i .rest;
+      rest =
+          from-good (a .r) (now (a .l)) _ (l .at) (tail-is (l .at) (now (a .l))) (g .before .before .before .segment-at .ensures) (i .k) (g .before .before .before .before .before .loop-test .taken) (omega (arith, i .fuel)) (l .segments) (l .dwells) (l .targets) (l .length) _ _ _ (c .dwells-past .ensures) (g .before .size .given .1)
+          ∙ i .rest;
     }
 
 returns-2 : tie.Need-returns-2 Inv-loop μ-loop
@@ -157,20 +142,19 @@ check-spec =
     (tie.spec
     Inv-loop
     μ-loop
-    add-length
     loop-holds
-    sub-segment-at
-    part-segment-at-start
-    part-segment-at-end
+    sub-t
+    part-t-start
+    (λ c. search needs)
     segment-at-requires
-    enum-known-number
-    add-t20
+    (λ c. search needs)
+    add-t19
     returns
-    enum-known-size
+    (λ c. search needs)
     add-segments
-    add-dwells
+    dwells-past-requires
     add-targets
-    add-length-2
+    add-length
     add-at
     loop-less
     loop-again

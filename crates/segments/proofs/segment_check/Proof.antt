@@ -21,24 +21,24 @@ abbrev from : ℕ → tie.Start → Check
 from k c = firstRow (drop k (segmentRows (c .args .r) (now (c .args .l))))
 
 -- row 6 does not apply
-past-6 : (c : tie.Else1) → from 0 (c .before .before) ≡ from 1 (c .before .before)
+past-6 : (c : tie.Else1) → let s = c .before .before in from 0 s ≡ from 1 s
 unfolding firstRow segmentRows
 past-6 c = rw (le-ltb (length (now (c .before .before .args .l))) 5 (c .if1 .left))
 
 -- nor does row 7
-past-7 : (c : tie.Else2) → from 0 (c .before .before .before .before .before) ≡ from 2 (c .before .before .before .before .before)
+past-7 : (c : tie.Else2) → let s = c .before .before .before .before .before in from 0 s ≡ from 2 s
 unfolding firstRow segmentRows typeAt
 past-7 c = past-6 (c .before .before .before) ∙ rw (sym (c .before .is-known-type .ensures) ∙ not-false _ (c .if2 .left))
 
 -- nor row 8
-past-8 : (c : tie.Else4) → from 0 (c .before .before .before .before .before .before .before .before) ≡ from 3 (c .before .before .before .before .before .before .before .before)
+past-8 : (c : tie.Else4) → let s = c .before .before .before .before .before .before .before .before in from 0 s ≡ from 3 s
 unfolding firstRow segmentRows
 past-8 c =
-    past-7 (c .before .before .before)
-    ∙ rw (sym (c .before .before .size-at .ensures), le-ltb (c .before .before .size-at .result) 5 (c .before .if3 .left), c .if4 .left)
+    let size = c .before .before .size-at in
+    past-7 (c .before .before .before) ∙ rw (sym (size .ensures), le-ltb (size .result) 5 (c .before .if3 .left), c .if4 .left)
 
 -- nor row 15
-past-15 : (c : tie.Joined5) → from 0 (c .before .before .before .before .before .before .before .before .before .before) ≡ from 4 (c .before .before .before .before .before .before .before .before .before .before)
+past-15 : (c : tie.Joined5) → let s = c .before .before .before .before .before .before .before .before .before .before in from 0 s ≡ from 4 s
 unfolding firstRow segmentRows typeAt
 past-15 c =
     let older = sym (c .before .is-older .ensures) in
@@ -52,54 +52,38 @@ returns : tie.Need-returns
 unfolding firstRow segmentRows
 returns c = rw (lt-ltb (length (now (c .before .before .args .l))) 5 (c .if1 .taken))
 
-shared-slice-read-kind : tie.Need-shared-slice-read-kind
-shared-slice-read-kind c = search needs
-
-is-known-type-requires : tie.Need-is-known-type-requires
-is-known-type-requires c κs = search needs
-
 returns-2 : tie.Need-returns-2
 unfolding firstRow segmentRows typeAt
-returns-2 c = sym (past-6 (c .before .before .before) ∙ rw (sym (c .before .is-known-type .ensures) ∙ not-true _ (c .if2 .taken)))
-
-size-at-requires : tie.Need-size-at-requires
-size-at-requires c κs = search needs
+returns-2 c =
+    let known = c .before in
+    sym (past-6 (known .before .before) ∙ rw (sym (known .is-known-type .ensures) ∙ not-true _ (c .if2 .taken)))
 
 returns-3 : tie.Need-returns-3
 unfolding firstRow segmentRows
 returns-3 c =
-    let size = c .before .size-at .result in
+    let size = c .before in
+    let z = size .size-at .result in
     sym
-    (past-7 (c .before .before)
-    ∙ rw (sym (c .before .size-at .ensures))
+    (past-7 (size .before)
+    ∙ rw (sym (size .size-at .ensures))
     (⊎-elim
-    (λ w. rw (lt-ltb size 5 (w .taken)))
-    (λ w. rw (le-ltb size 5 (w .0 .left), w .1 .taken))
+    (λ w. rw (lt-ltb z 5 (w .taken)))
+    (λ w. rw (le-ltb z 5 (w .0 .left), w .1 .taken))
     (c .if3 .came)))
-
-is-older-requires : tie.Need-is-older-requires
-is-older-requires c κs = search needs
 
 returns-4 : tie.Need-returns-4
 unfolding firstRow segmentRows typeAt
-returns-4 c = sym (past-8 (c .before .before .before) ∙ rw (sym (c .before .before .is-older .ensures) ∙ c .before .if5 .taken, c .if6 .taken))
-
-part-body-check-start : tie.Need-part-body-check-start
-part-body-check-start c = search needs
-
-part-body-check-end : tie.Need-part-body-check-end
-part-body-check-end c = search needs
-
-body-check-requires : tie.Need-body-check-requires
-body-check-requires c κs = search needs
+returns-4 c =
+    let older = c .before .before in
+    sym (past-8 (older .before) ∙ rw (sym (older .is-older .ensures) ∙ c .before .if5 .taken, c .if6 .taken))
 
 returns-5 : tie.Need-returns-5
 unfolding segmentRows typeAt
 returns-5 c =
-    let s = c .before .before .before .before .before .before .before .before .before .before .before .before in
-    let size = c .before .before .before .before .before .before .size-at in
+    let size = c .before .before .before .before .before .before in
+    let s = size .before .before .before .before .before .before in
     let rows : List ℕ → Check = λ b. firstRow (bodyRows (s .args .r) (typeAt (now (s .args .l))) b) in
-    let body = body-part (now (s .args .l)) (size .result) (size .ensures) (omega arith) in
+    let body = body-part (now (s .args .l)) (size .size-at .result) (size .size-at .ensures) (omega arith) in
     sym (past-15 (c .before .before) ∙ ap rows (sym body) ∙ sym (c .body-check .ensures))
 
 pub segment-check-spec : {M : Type 1} → statement M
@@ -107,14 +91,14 @@ segment-check-spec =
     tie.close
     (tie.spec
     returns
-    shared-slice-read-kind
-    is-known-type-requires
+    (λ c. search needs)
+    (λ c κs. search needs)
     returns-2
-    size-at-requires
+    (λ c κs. search needs)
     returns-3
-    is-older-requires
+    (λ c κs. search needs)
     returns-4
-    part-body-check-start
-    part-body-check-end
-    body-check-requires
+    (λ c. search needs)
+    (λ c. search needs)
+    (λ c κs. search needs)
     returns-5)

@@ -5,15 +5,9 @@ use borrow.Author.Needs.{needs}
 use Rattle.segments.proofs.size_at.Statement.{statement}
 use Rattle.segments.proofs.size_at.Tie as tie
 
-get-u32-requires : tie.Need-get-u32-requires
-get-u32-requires c κs = search needs
-
-cast-result : tie.Need-cast-result
-cast-result c = search needs
-
 returns : tie.Need-returns
 unfolding sizeAt
 returns c = c .get-u32 .ensures
 
 pub size-at-spec : {M : Type 1} → statement M
-size-at-spec = tie.close (tie.spec get-u32-requires cast-result returns)
+size-at-spec = tie.close (tie.spec (λ c κs. search needs) (λ c. search needs) returns)

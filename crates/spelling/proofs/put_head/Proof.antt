@@ -7,17 +7,8 @@ use borrow.Author.Needs.{needs}
 use Rattle.spelling.proofs.put_head.Statement.{statement}
 use Rattle.spelling.proofs.put_head.Tie as tie
 
-slice-write-o : tie.Need-slice-write-o
-slice-write-o c = search needs
-
-put-u32-requires : tie.Need-put-u32-requires
-put-u32-requires c κs = search needs
-
 same-length : tie.Need-same-length
-same-length c = omega (arith, c .before .before .put-u32 .kept .0, length-set (now (c .before .before .before .before .before .args .o)) 0 (c .before .before .before .before .before .args .kind))
-
-returns : tie.Need-returns
-returns c = search needs
+same-length c = omega (arith, c .before .before .put-u32 .kept .0, length-set (now (c .before .before .before .before .before .args .o)) 0 (c .before .before .before .before .before .args .segment-type))
 
 pub put-head-spec : {M : Type 1} → statement M
-put-head-spec = tie.close (tie.spec slice-write-o put-u32-requires same-length returns)
+put-head-spec = tie.close (tie.spec (λ c. search needs) (λ c κs. search needs) same-length (λ c. search needs))

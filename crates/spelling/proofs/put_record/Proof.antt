@@ -1,71 +1,91 @@
--- `spelling::put_record` meets its contract. A target, a piece, or a record that begins a segment.
+-- `spelling::put_record` meets its contract. A target goes by the mask at the front of its leader; a piece, or a record that begins a
+-- segment, by itself.
 -- Assumes nothing.
+use borrow.Author.Needs.{needs}
+use borrow.Author.Tests.{ne-eqb}
 use mathlib.Core.Path.{ap, _∙_}
 use native.Mathlib.Omega.{arith}
 use denote.Ref.{now}
 use lib.ListN.{length}
 use lib.Seq.{sets}
-use Rattle.format.specs.Sheet.{bodyLength}
-use Rattle.spelling.proofs.Stored.{no-follower, piece-spelt, target-spelt, target-long, target-length}
-use borrow.Author.Needs.{needs}
+use Rattle.octets.specs.Layout.{total}
+use Rattle.spelling.proofs.Stored.{leader-spelt, target-spelt, target-long, target-length, piece-spelt, piece-long, piece-length}
 use Rattle.spelling.proofs.put_record.Statement.{statement}
 use Rattle.spelling.proofs.put_record.Tie as tie
 
-target-fields-requires : tie.Need-target-fields-requires
-target-fields-requires c κs =
-    let s = c .before .before .before .before in
-    let e = c .before .if1 .taken in
-    omega (arith, target-long (s .args .kind) (now (s .args .b)) (s .args .mask) (s .pre .0) e, target-length (s .args .kind) (now (s .args .b)) (s .args .mask) (s .pre .0) e, s .pre .5)
+get-u64-requires : tie.Need-get-u64-requires
+get-u64-requires c κs = c .before .before .before .before .pre .0 .3 (c .if1 .taken)
 
-same-length : tie.Need-same-length
-same-length c = search needs
+target-fields-requires : tie.Need-target-fields-requires
+unfolding total
+target-fields-requires c κs =
+    let mask = c .before in
+    let s = mask .before .before .before .before .before in
+    let a = s .args in
+    let e = mask .before .if1 .taken in
+    record {
+      held = omega (arith, target-long (now (a .leader)) (a .kind) (now (a .b)) (s .pre .0 .0) e);
+      room = omega (arith, target-length (now (a .leader)) (a .kind) (now (a .b)) (s .pre .0 .0) e _ (mask .get-u64 .ensures), s .pre .1);
+    }
 
 returns : tie.Need-returns
 returns c =
-    let s = c .before .before .before .before .before .before .before in
-    let e = c .before .before .before .before .if1 .taken in (
-      omega (arith, c .before .before .target-fields .ensures .0, target-length (s .args .kind) (now (s .args .b)) (s .args .mask) (s .pre .0) e),
-      c .before .before .target-fields .ensures .1 ∙ ap (sets (now (s .args .o)) 0) (target-spelt (s .args .kind) (now (s .args .b)) (s .args .mask) e),
+    let put = c .before .before in
+    let mask = put .before .before in
+    let s = mask .before .before .before .before .before in
+    let a = s .args in
+    let e = mask .before .if1 .taken in (
+      omega (arith, put .target-fields .ensures .next, target-length (now (a .leader)) (a .kind) (now (a .b)) (s .pre .0 .0) e _ (mask .get-u64 .ensures)),
+      put .target-fields .ensures .stored ∙ ap (sets (now (a .o)) 0) (target-spelt (now (a .leader)) (a .kind) (now (a .b)) e _ (mask .get-u64 .ensures)),
     )
 
 put-piece-requires : tie.Need-put-piece-requires
-unfolding bodyLength
 put-piece-requires c κs =
-    let s = c .before .before .before .before .before in
+    let s = c .before .before .before .before .before .before in
+    let a = s .args in
     let e = c .before .if2 .taken in
-    (s .pre .0 ∙ ap bodyLength e, s .pre .3 e, omega (arith, ap length (piece-spelt (s .args .kind) (now (s .args .b)) (s .args .mask) e), s .pre .5))
-
-same-length-2 : tie.Need-same-length-2
-same-length-2 c = search needs
+    let n = s .pre .0 .4 e in
+    (piece-long (now (a .leader)) (a .kind) (now (a .b)) (s .pre .0 .0) e, n, omega (arith, piece-length (now (a .leader)) (a .kind) (now (a .b)) (s .pre .0 .0) e n, s .pre .1))
 
 returns-2 : tie.Need-returns-2
 returns-2 c =
-    let s = c .before .before .before .before .before .before .before .before in
-    let p = piece-spelt (s .args .kind) (now (s .args .b)) (s .args .mask) (c .before .before .before .before .if2 .taken) in
-    (c .before .before .put-piece .ensures .0 ∙ ap length p, c .before .before .put-piece .ensures .1 ∙ ap (sets (now (s .args .o)) 0) p)
+    let put = c .before .before in
+    let s = put .before .before .before .before .before .before .before in
+    let a = s .args in
+    let e = put .before .before .if2 .taken in (
+      put .put-piece .ensures .0 ∙ piece-length (now (a .leader)) (a .kind) (now (a .b)) (s .pre .0 .0) e (s .pre .0 .4 e),
+      put .put-piece .ensures .1 ∙ ap (sets (now (a .o)) 0) (piece-spelt (now (a .leader)) (a .kind) (now (a .b)) e),
+    )
 
 put-leader-requires : tie.Need-put-leader-requires
 put-leader-requires c κs =
-    let s = c .before .before .before .before .before in
-    let f = no-follower (s .args .kind) (now (s .args .b)) (c .before .before .if1 .left) (c .before .if2 .left) in
-    (c .before .before .if1 .left, c .before .if2 .left, s .pre .0, s .pre .1, s .pre .2, rw f at (s .pre .4), s .pre .5)
-
-same-length-3 : tie.Need-same-length-3
-same-length-3 c = search needs
+    let other = c .before in
+    let s = other .before .before .before .before .before in
+    let a = s .args in
+    let t = other .before .if1 .left in
+    let p = other .if2 .left in
+    let size = rw (ne-eqb (a .kind) 4 t, ne-eqb (a .kind) 6 p) at (s .pre .0 .2) in
+    ((s .pre .0 .0, s .pre .0 .1, size), omega (arith, ap length (leader-spelt (now (a .leader)) (a .kind) (now (a .b)) t p), s .pre .1))
 
 returns-3 : tie.Need-returns-3
-returns-3 c = search needs
+returns-3 c =
+    let put = c .before .before in
+    let other = put .before .before in
+    let a = other .before .before .before .before .before .args in
+    let e = leader-spelt (now (a .leader)) (a .kind) (now (a .b)) (other .before .if1 .left) (other .if2 .left) in
+    (put .put-leader .ensures .0 ∙ ap length e, put .put-leader .ensures .1 ∙ ap (sets (now (a .o)) 0) e)
 
 pub put-record-spec : {M : Type 1} → statement M
 put-record-spec =
     tie.close
     (tie.spec
+    get-u64-requires
     target-fields-requires
-    same-length
+    (λ c. search needs)
     returns
     put-piece-requires
-    same-length-2
+    (λ c. search needs)
     returns-2
     put-leader-requires
-    same-length-3
+    (λ c. search needs)
     returns-3)

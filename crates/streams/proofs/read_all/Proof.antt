@@ -31,9 +31,6 @@ part-read-some-end c = omega arith
 read-some-requires : tie.Need-read-some-requires Inv-loop μ-loop
 read-some-requires c κs = room (c .before .before .loop .o) (c .before .before .loop .n) (omega arith)
 
-enum-known-next : tie.Need-enum-known-next Inv-loop μ-loop
-enum-known-next c = search needs
-
 -- o keeps its length
 kept : (c : tie.After-read-some Inv-loop μ-loop) → length (putMid (c .before .before .before .loop .n) (length (c .before .before .before .loop .o) - c .before .before .before .loop .n) (c .before .before .before .loop .o) (c .read-some .last .1 .0)) ≡ length (c .before .before .before .loop .o)
 kept c = same-len-mid (c .before .before .before .loop .n) (length (c .before .before .before .loop .o) - c .before .before .before .loop .n) (c .before .before .before .loop .o) (c .read-some .last .1 .0) (c .read-some .kept .1 .0)
@@ -52,17 +49,11 @@ loop-less c = omega (arith, came c, kept (c .before .before .before .before .bef
 loop-again : tie.Need-loop-again Inv-loop μ-loop
 loop-again c = (omega (arith, came c .1, kept (c .before .before .before .before .before)), kept (c .before .before .before .before .before) ∙ c .before .before .before .before .before .before .before .before .loop .inv .1)
 
-enum-told : tie.Need-enum-told Inv-loop μ-loop
-enum-told c = search needs
-
 same-length : tie.Need-same-length Inv-loop μ-loop
 same-length c = kept (c .before .before .before .before) ∙ c .before .before .before .before .before .before .before .loop .inv .1
 
 returns : tie.Need-returns Inv-loop μ-loop
 returns c = omega (arith, kept (c .before .before .before .before), c .before .before .before .before .before .before .before .loop .inv .0)
-
-enum-told-2 : tie.Need-enum-told-2 Inv-loop μ-loop
-enum-told-2 c = search needs
 
 same-length-2 : tie.Need-same-length-2 Inv-loop μ-loop
 same-length-2 c = kept (c .before .before .before .before) ∙ c .before .before .before .before .before .before .before .loop .inv .1
@@ -87,14 +78,14 @@ read-all-spec =
     part-read-some-start
     part-read-some-end
     read-some-requires
-    enum-known-next
+    (λ c. search needs)
     add-n
     loop-less
     loop-again
-    enum-told
+    (λ c. search needs)
     same-length
     returns
-    enum-told-2
+    (λ c. search needs)
     same-length-2
     returns-2
     same-length-3

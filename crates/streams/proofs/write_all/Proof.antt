@@ -27,15 +27,6 @@ part-rest-start c = omega arith
 part-rest-end : tie.Need-part-rest-end Inv-loop μ-loop
 part-rest-end c = omega arith
 
-write-requires : tie.Need-write-requires Inv-loop μ-loop
-write-requires c κs = search needs
-
-given-requires : tie.Need-given-requires Inv-loop μ-loop
-given-requires c κs = search needs
-
-enum-known-call : tie.Need-enum-known-call Inv-loop μ-loop
-enum-known-call c = search needs
-
 -- what was written lies within s
 taken : (c : tie.After-known-told Inv-loop μ-loop) → c .before .before .before .before .before .before .before .before .loop .n + c .before .call .given .0 .0 ≤ length (now (c .before .before .before .before .before .before .before .before .before .before .before .args .s))
 taken c = within-rest (now (c .before .before .before .before .before .before .before .before .before .before .before .args .s)) (c .before .before .before .before .before .before .before .before .loop .inv) (moved-within (c .before .call .given .1) (c .before .before .before .given .ensures))
@@ -52,9 +43,6 @@ loop-less c = omega arith
 loop-again : tie.Need-loop-again Inv-loop μ-loop
 loop-again c = taken c
 
-enum-told : tie.Need-enum-told Inv-loop μ-loop
-enum-told c = search needs
-
 sub-turns-2 : tie.Need-sub-turns-2 Inv-loop μ-loop
 sub-turns-2 c = omega arith
 
@@ -64,17 +52,11 @@ loop-less-2 c = omega arith
 loop-again-2 : tie.Need-loop-again-2 Inv-loop μ-loop
 loop-again-2 c = omega arith
 
-enum-told-2 : tie.Need-enum-told-2 Inv-loop μ-loop
-enum-told-2 c = search needs
-
 loop-less-3 : tie.Need-loop-less-3 Inv-loop μ-loop
 loop-less-3 c = omega arith
 
 loop-again-3 : tie.Need-loop-again-3 Inv-loop μ-loop
 loop-again-3 c = omega arith
-
-fail-requires : tie.Need-fail-requires Inv-loop μ-loop
-fail-requires c κs = search needs
 
 returns : tie.Need-returns Inv-loop μ-loop
 returns c = tt
@@ -92,20 +74,20 @@ write-all-spec =
     sub-rest
     part-rest-start
     part-rest-end
-    write-requires
-    given-requires
-    enum-known-call
+    (λ c κs. search needs)
+    (λ c κs. search needs)
+    (λ c. search needs)
     add-n
     sub-turns
     loop-less
     loop-again
-    enum-told
+    (λ c. search needs)
     sub-turns-2
     loop-less-2
     loop-again-2
-    enum-told-2
+    (λ c. search needs)
     loop-less-3
     loop-again-3
-    fail-requires
+    (λ c κs. search needs)
     returns
     returns-2)

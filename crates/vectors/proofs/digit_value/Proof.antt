@@ -8,14 +8,8 @@ use Rattle.vectors.proofs.Spellings.{digit-range}
 use Rattle.vectors.proofs.digit_value.Statement.{statement}
 use Rattle.vectors.proofs.digit_value.Tie as tie
 
-is-digit-requires : tie.Need-is-digit-requires
-is-digit-requires c κs = search needs
-
 sub-result : tie.Need-sub-result
 sub-result c = digit-range (c .before .before .args .c) (sym (c .before .is-digit .ensures) ∙ c .if1 .taken) .0
-
-cast-result : tie.Need-cast-result
-cast-result c = search needs
 
 returns : tie.Need-returns
 unfolding digitValue
@@ -28,4 +22,4 @@ unfolding digitValue
 returns-2 c = rw (sym (c .before .is-digit .ensures) ∙ c .if1 .left) (refl, omega arith)
 
 pub digit-value-spec : {M : Type 1} → statement M
-digit-value-spec = tie.close (tie.spec is-digit-requires sub-result cast-result returns returns-2)
+digit-value-spec = tie.close (tie.spec (λ c κs. search needs) sub-result (λ c. search needs) returns returns-2)

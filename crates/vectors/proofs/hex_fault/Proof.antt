@@ -7,9 +7,6 @@ use Rattle.vectors.specs.Vectors.{hexFault}
 use Rattle.vectors.proofs.hex_fault.Statement.{statement}
 use Rattle.vectors.proofs.hex_fault.Tie as tie
 
-is-hex-requires : tie.Need-is-hex-requires
-is-hex-requires c κs = search needs
-
 returns : tie.Need-returns
 unfolding hexFault
 returns c = rw (sym (c .before .is-hex .ensures) ∙ not-true _ (c .if1 .taken))
@@ -23,4 +20,4 @@ unfolding hexFault
 returns-3 c = rw (sym (c .before .before .is-hex .ensures) ∙ not-false _ (c .before .if1 .left), eq-eqb _ 0 (c .if2 .left))
 
 pub hex-fault-spec : {M : Type 1} → statement M
-hex-fault-spec = tie.close (tie.spec is-hex-requires returns returns-2 returns-3)
+hex-fault-spec = tie.close (tie.spec (λ c κs. search needs) returns returns-2 returns-3)

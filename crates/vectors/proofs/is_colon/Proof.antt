@@ -9,20 +9,8 @@ use Rattle.vectors.proofs.Spellings.{colon-at, colon-short}
 use Rattle.vectors.proofs.is_colon.Statement.{statement}
 use Rattle.vectors.proofs.is_colon.Tie as tie
 
-sub-if1 : tie.Need-sub-if1
-sub-if1 c = search needs
-
 returns : tie.Need-returns
 returns c = let a = c .before .args in sym (colon-short (now (a .s)) (a .at) (omega arith))
-
-shared-slice-read-if2 : tie.Need-shared-slice-read-if2
-shared-slice-read-if2 c = search needs
-
-add-result : tie.Need-add-result
-add-result c = search needs
-
-shared-slice-read-result : tie.Need-shared-slice-read-result
-shared-slice-read-result c = search needs
 
 returns-2 : tie.Need-returns-2
 returns-2 c = let a = c .before .before .before .before .args in rw (colon-at (now (a .s)) (a .at), eq-eqb _ 58 (c .before .if2 .taken))
@@ -34,10 +22,10 @@ pub is-colon-spec : {M : Type 1} → statement M
 is-colon-spec =
     tie.close
     (tie.spec
-    sub-if1
+    (λ c. search needs)
     returns
-    shared-slice-read-if2
-    add-result
-    shared-slice-read-result
+    (λ c. search needs)
+    (λ c. search needs)
+    (λ c. search needs)
     returns-2
     returns-3)

@@ -24,9 +24,6 @@ loop-holds c = (omega arith, refl)
 shared-slice-read-nibble : tie.Need-shared-slice-read-nibble Inv-loop μ-loop
 shared-slice-read-nibble c = omega arith
 
-nibble-requires : tie.Need-nibble-requires Inv-loop μ-loop
-nibble-requires c κs = search needs
-
 returns : tie.Need-returns Inv-loop μ-loop
 returns c =
     let s = now (c .before .before .before .before .before .before .args .s) in
@@ -58,7 +55,7 @@ is-hex-spec =
     μ-loop
     loop-holds
     shared-slice-read-nibble
-    nibble-requires
+    (λ c κs. search needs)
     returns
     add-i
     loop-less

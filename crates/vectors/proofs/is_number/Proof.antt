@@ -24,9 +24,6 @@ loop-holds c = (omega arith, refl)
 shared-slice-read-is-digit : tie.Need-shared-slice-read-is-digit Inv-loop μ-loop
 shared-slice-read-is-digit c = omega arith
 
-is-digit-requires : tie.Need-is-digit-requires Inv-loop μ-loop
-is-digit-requires c κs = search needs
-
 returns : tie.Need-returns Inv-loop μ-loop
 unfolding isNumber
 returns c =
@@ -58,7 +55,7 @@ is-number-spec =
     μ-loop
     loop-holds
     shared-slice-read-is-digit
-    is-digit-requires
+    (λ c κs. search needs)
     returns
     add-i
     loop-less

@@ -7,12 +7,6 @@ use Rattle.vectors.proofs.Spellings.{nibble-digit, nibble-capital, nibb
 use Rattle.vectors.proofs.nibble.Statement.{statement}
 use Rattle.vectors.proofs.nibble.Tie as tie
 
-sub-result : tie.Need-sub-result
-sub-result c = search needs
-
-sub-result-2 : tie.Need-sub-result-2
-sub-result-2 c = search needs
-
 returns : tie.Need-returns
 returns c = (sym (nibble-none (c .before .args .c) (omega arith)), omega arith)
 
@@ -38,8 +32,8 @@ pub nibble-spec : {M : Type 1} → statement M
 nibble-spec =
     tie.close
     (tie.spec
-    sub-result
-    sub-result-2
+    (λ c. search needs)
+    (λ c. search needs)
     returns
     returns-2
     returns-3

@@ -23,9 +23,6 @@ loop-holds c = (omega arith, omega arith, refl)
 shared-slice-read-with-digit : tie.Need-shared-slice-read-with-digit Inv-loop μ-loop
 shared-slice-read-with-digit c = omega arith
 
-with-digit-requires : tie.Need-with-digit-requires Inv-loop μ-loop
-with-digit-requires c κs = search needs
-
 add-i : tie.Need-add-i Inv-loop μ-loop
 add-i c = omega arith
 
@@ -49,7 +46,7 @@ number-spec =
     μ-loop
     loop-holds
     shared-slice-read-with-digit
-    with-digit-requires
+    (λ c κs. search needs)
     add-i
     loop-less
     loop-again

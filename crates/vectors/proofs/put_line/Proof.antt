@@ -26,18 +26,6 @@ room c =
     let e = c .before .before .before .before .put-answer .ensures in
     omega (arith, kept c, c .put-hex .ensures .0, e .0 .1, n .0, c .before .before .before .before .before .before .before .before .before .before .before .before .before .pre)
 
-put-name-requires : tie.Need-put-name-requires
-put-name-requires c κs = search needs
-
-put-answer-requires : tie.Need-put-answer-requires
-put-answer-requires c κs = search needs
-
-slice-write-o : tie.Need-slice-write-o
-slice-write-o c = search needs
-
-add-put-hex : tie.Need-add-put-hex
-add-put-hex c = search needs
-
 put-hex-requires : tie.Need-put-hex-requires
 put-hex-requires c κs =
     let n = c .before .before .before .before .before .before .before .put-name in
@@ -46,9 +34,6 @@ put-hex-requires c κs =
 
 slice-write-o-2 : tie.Need-slice-write-o-2
 slice-write-o-2 c = room (c .before .before)
-
-add-result : tie.Need-add-result
-add-result c = search needs
 
 same-length : tie.Need-same-length
 same-length c = rw length-set (kept (c .before .before))
@@ -66,12 +51,12 @@ pub put-line-spec : {M : Type 1} → statement M
 put-line-spec =
     tie.close
     (tie.spec
-    put-name-requires
-    put-answer-requires
-    slice-write-o
-    add-put-hex
+    (λ c κs. search needs)
+    (λ c κs. search needs)
+    (λ c. search needs)
+    (λ c. search needs)
     put-hex-requires
     slice-write-o-2
-    add-result
+    (λ c. search needs)
     same-length
     returns)

@@ -8,23 +8,8 @@ use borrow.Author.Needs.{needs}
 use Rattle.vectors.proofs.put_name.Statement.{statement}
 use Rattle.vectors.proofs.put_name.Tie as tie
 
-copy-all-requires : tie.Need-copy-all-requires
-copy-all-requires c κs = search needs
-
-slice-write-o : tie.Need-slice-write-o
-slice-write-o c = search needs
-
-add-o : tie.Need-add-o
-add-o c = search needs
-
 slice-write-o-2 : tie.Need-slice-write-o-2
 slice-write-o-2 c = rw length-set (omega arith)
-
-add-result : tie.Need-add-result
-add-result c = search needs
-
-same-length : tie.Need-same-length
-same-length c = search needs
 
 returns : tie.Need-returns
 returns c =
@@ -35,4 +20,4 @@ returns c =
 pub put-name-spec : {M : Type 1} → statement M
 put-name-spec =
     tie.close
-    (tie.spec copy-all-requires slice-write-o add-o slice-write-o-2 add-result same-length returns)
+    (tie.spec (λ c κs. search needs) (λ c. search needs) (λ c. search needs) slice-write-o-2 (λ c. search needs) (λ c. search needs) returns)

@@ -10,18 +10,6 @@ use Rattle.vectors.proofs.Spellings.{label-laid, unread-laid}
 use Rattle.vectors.proofs.put_unread.Statement.{statement}
 use Rattle.vectors.proofs.put_unread.Tie as tie
 
-put-name-requires : tie.Need-put-name-requires
-put-name-requires c κs = search needs
-
-put-fault-requires : tie.Need-put-fault-requires
-put-fault-requires c κs = search needs
-
-slice-write-o : tie.Need-slice-write-o
-slice-write-o c = search needs
-
-add-result : tie.Need-add-result
-add-result c = search needs
-
 same-length : tie.Need-same-length
 same-length c = rw length-set (c .before .before .put-fault .kept .0 ∙ c .before .before .before .before .before .before .put-name .kept .0)
 
@@ -36,4 +24,4 @@ returns c =
 pub put-unread-spec : {M : Type 1} → statement M
 put-unread-spec =
     tie.close
-    (tie.spec put-name-requires put-fault-requires slice-write-o add-result same-length returns)
+    (tie.spec (λ c κs. search needs) (λ c κs. search needs) (λ c. search needs) (λ c. search needs) same-length returns)

@@ -26,9 +26,6 @@ mul-nibble c = omega arith
 shared-slice-read-nibble : tie.Need-shared-slice-read-nibble Inv-loop μ-loop
 shared-slice-read-nibble c = omega arith
 
-nibble-requires : tie.Need-nibble-requires Inv-loop μ-loop
-nibble-requires c κs = search needs
-
 -- the first digit of a pair is below 16
 first-digit : (c : tie.After-nibble Inv-loop μ-loop) → c .nibble .result < 16
 first-digit c =
@@ -46,9 +43,6 @@ add-nibble c = omega arith
 
 shared-slice-read-nibble-2 : tie.Need-shared-slice-read-nibble-2 Inv-loop μ-loop
 shared-slice-read-nibble-2 c = omega arith
-
-nibble-requires-2 : tie.Need-nibble-requires-2 Inv-loop μ-loop
-nibble-requires-2 c κs = search needs
 
 add-o : tie.Need-add-o Inv-loop μ-loop
 add-o c =
@@ -92,12 +86,12 @@ unhex-spec =
     loop-holds
     mul-nibble
     shared-slice-read-nibble
-    nibble-requires
+    (λ c κs. search needs)
     mul-o
     mul-nibble-2
     add-nibble
     shared-slice-read-nibble-2
-    nibble-requires-2
+    (λ c κs. search needs)
     add-o
     slice-write-o
     add-i

@@ -6,15 +6,6 @@ use Rattle.vectors.specs.Vectors.{withDigit}
 use Rattle.vectors.proofs.with_digit.Statement.{statement}
 use Rattle.vectors.proofs.with_digit.Tie as tie
 
-mul-m : tie.Need-mul-m
-mul-m c = search needs
-
-digit-value-requires : tie.Need-digit-value-requires
-digit-value-requires c κs = search needs
-
-add-m : tie.Need-add-m
-add-m c = search needs
-
 returns : tie.Need-returns
 unfolding withDigit
 returns c = omega arith
@@ -24,4 +15,4 @@ unfolding withDigit
 returns-2 c = omega arith
 
 pub with-digit-spec : {M : Type 1} → statement M
-with-digit-spec = tie.close (tie.spec mul-m digit-value-requires add-m returns returns-2)
+with-digit-spec = tie.close (tie.spec (λ c. search needs) (λ c κs. search needs) (λ c. search needs) returns returns-2)

@@ -9,17 +9,8 @@ use Rattle.writer.proofs.place.Tie as tie
 enum-told : tie.Need-enum-told
 enum-told c = search needs
 
-enum-told-2 : tie.Need-enum-told-2
-enum-told-2 c = search needs
-
-copy-all-requires : tie.Need-copy-all-requires
-copy-all-requires c κs = search needs
-
 returns : tie.Need-returns
 returns c = let a = c .before .before .before .before .args in placed-refused (a .a) (now (a .packet)) (now (a .o)) _ _ _ (c .enum-told .given .1)
-
-same-length : tie.Need-same-length
-same-length c = search needs
 
 returns-2 : tie.Need-returns-2
 returns-2 c = let a = c .before .before .before .before .before .before .before .before .before .args in placed-laid (a .a) (now (a .packet)) (now (a .o)) _ _ _ _ _ (c .before .before .before .before .before .enum-told2 .given .1) (c .before .before .before .before .if1 .taken) (c .before .before .copy-all .ensures)
@@ -30,4 +21,4 @@ returns-3 c = let a = c .before .before .before .before .before .args in placed-
 pub place-spec : {M : Type 1} → statement M
 place-spec =
     tie.close
-    (tie.spec enum-told enum-told-2 copy-all-requires returns same-length returns-2 returns-3)
+    (tie.spec enum-told (λ c. search needs) (λ c κs. search needs) returns (λ c. search needs) returns-2 returns-3)

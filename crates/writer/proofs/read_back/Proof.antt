@@ -10,35 +10,20 @@ use borrow.Author.Needs.{needs}
 use Rattle.writer.proofs.read_back.Statement.{statement}
 use Rattle.writer.proofs.read_back.Tie as tie
 
-check-requires : tie.Need-check-requires
-check-requires c κs = search needs
-
 enum-told : tie.Need-enum-told
 enum-told c = search needs
-
-refused-requires : tie.Need-refused-requires
-refused-requires c κs = search needs
-
-enum-known-segments : tie.Need-enum-known-segments
-enum-known-segments c = search needs
 
 is-sheet-requires : tie.Need-is-sheet-requires
 is-sheet-requires c κs =
     let s = c .before .before .before .before .before .before .before .before .before in
     let ready = comparable (now (s .args .packet)) (now (s .args .x)) (s .pre .0) _ (c .before .before .before .before .before .check .ensures) _ _ _ _ (c .before .before .before .segments .given .1) (c .before .if1 .taken) in
-    (ready .0, ready .1, ready .2, s .pre .1)
-
-refused-requires-2 : tie.Need-refused-requires-2
-refused-requires-2 c κs = search needs
+    (ready .0, ready .1, s .pre .1)
 
 returns : tie.Need-returns
 returns c =
     let s = c .before .before .before .before .before .before .before in
     c .refused .ensures
     ∙ reread-refused (now (s .args .packet)) (now (s .args .x)) (s .pre .0) _ (c .before .before .before .check .ensures) _ _ _ (c .before .enum-told .given .1)
-
-same-length : tie.Need-same-length
-same-length c = search needs
 
 returns-2 : tie.Need-returns-2
 returns-2 c =
@@ -66,14 +51,14 @@ pub read-back-spec : {M : Type 1} → statement M
 read-back-spec =
     tie.close
     (tie.spec
-    check-requires
+    (λ c κs. search needs)
     enum-told
-    refused-requires
-    enum-known-segments
+    (λ c κs. search needs)
+    (λ c. search needs)
     is-sheet-requires
-    refused-requires-2
+    (λ c κs. search needs)
     returns
-    same-length
+    (λ c. search needs)
     returns-2
     same-length-2
     returns-3)

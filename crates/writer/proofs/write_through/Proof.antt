@@ -16,13 +16,7 @@ spelt-is : (c : tie.After-slice-known4) → let s = c .before .before .before .b
     take (s .args .n) (c .before .before .spell .last .1 .0) ≡ spell (now (s .args .x))
 spelt-is c =
     let s = c .before .before .before .before .before .before .before .before in
-    front-back (spell (now (s .args .x))) (now (s .args .spelt)) _ (s .args .n) (s .pre .1) (omega (arith, s .pre .1, s .pre .3)) (c .before .before .spell .ensures)
-
-spell-requires : tie.Need-spell-requires
-spell-requires c κs = search needs
-
-slice-reshare-prefix-packet : tie.Need-slice-reshare-prefix-packet
-slice-reshare-prefix-packet c = search needs
+    front-back (spell (now (s .args .x))) (now (s .args .spelt)) _ (s .args .n) (s .pre .0 .length-is) (omega (arith, s .pre .0 .length-is, s .pre .2)) (c .before .before .spell .ensures)
 
 slice-aggregate-packet : tie.Need-slice-aggregate-packet
 slice-aggregate-packet c =
@@ -30,37 +24,24 @@ slice-aggregate-packet c =
     sym (length-take-le (s .args .n) (c .before .before .before .spell .last .1 .0) (omega (arith, c .before .before .before .spell .kept, s .pre)))
 
 read-back-requires : tie.Need-read-back-requires
-read-back-requires c κs = (spelt-is (c .before .before), c .before .before .before .before .before .before .before .before .before .before .pre .4)
-
-place-requires : tie.Need-place-requires
-place-requires c κs = search needs
-
-same-length : tie.Need-same-length
-same-length c = search needs
-
-same-length-2 : tie.Need-same-length-2
-same-length-2 c = search needs
-
-same-length-3 : tie.Need-same-length-3
-same-length-3 c = search needs
+read-back-requires c κs = (spelt-is (c .before .before), c .before .before .before .before .before .before .before .before .before .before .pre .3)
 
 returns : tie.Need-returns
 returns c =
     let s = c .before .before .before .before .before .before .before .before .before .before .before .before .before .before .before .before .before in
     let x = now (s .args .x) in
-    let shape = s .pre .0 in
-    settled-placed x (now (s .args .o)) _ _ _ (c .before .before .before .before .before .before .read-back .ensures ∙ row-19-back x (shape .0) (shape .1) (shape .2) (omega (arith, s .pre .1, s .pre .2))) (spelt-is (c .before .before .before .before .before .before .before .before .before)) (c .before .before .place .ensures)
+    settled-placed x (now (s .args .o)) _ _ _ (c .before .before .before .before .before .before .read-back .ensures ∙ row-19-back x (s .pre .0 .shaped) (omega (arith, s .pre .0 .length-is, s .pre .1))) (spelt-is (c .before .before .before .before .before .before .before .before .before)) (c .before .before .place .ensures)
 
 pub write-through-spec : {M : Type 1} → statement M
 write-through-spec =
     tie.close
     (tie.spec
-    spell-requires
-    slice-reshare-prefix-packet
+    (λ c κs. search needs)
+    (λ c. search needs)
     slice-aggregate-packet
     read-back-requires
-    place-requires
-    same-length
-    same-length-2
-    same-length-3
+    (λ c κs. search needs)
+    (λ c. search needs)
+    (λ c. search needs)
+    (λ c. search needs)
     returns)

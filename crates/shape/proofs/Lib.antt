@@ -1,3 +1,0 @@
-pub mod Called
-pub mod Dues
-pub mod Headed

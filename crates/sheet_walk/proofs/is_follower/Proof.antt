@@ -1,0 +1,14 @@
+-- `sheet_walk::is_follower` meets its contract: its two tests are those of the definition.
+-- Assumes nothing.
+use borrow.Author.Tests.{eq-eqb, ne-eqb}
+use Rattle.sheet_walk.proofs.is_follower.Statement.{statement}
+use Rattle.sheet_walk.proofs.is_follower.Tie as tie
+
+returns : tie.Need-returns
+returns c = rw (eq-eqb (c .before .args .kind) 4 (c .if1 .taken))
+
+returns-2 : tie.Need-returns-2
+returns-2 c = rw (ne-eqb (c .before .args .kind) 4 (c .if1 .left))
+
+pub is-follower-spec : {M : Type 1} → statement M
+is-follower-spec = tie.close (tie.spec returns returns-2)

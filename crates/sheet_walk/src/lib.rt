@@ -1,0 +1,225 @@
+// The records of a sheet: the one at a place, what the one says that begins a segment, and how much those have that follow it.
+ghost use mathlib.Core.Path.{_≡_};
+ghost use mathlib.Core.Bool.{_||_};
+ghost use Prim.Native.Nat.{_≤_};
+ghost use lib.Dec.{eqb};
+ghost use lib.ListN.{length, drop};
+ghost use Rattle.format.specs.Sheet.{bodyLength};
+ghost use Rattle.format.specs.Writer.{listed, due, share as shareOf, carried as carriedBy};
+ghost use Rattle.sheet_walk.specs.Shape.{placeAt, isRest, leadOf, sizeBy, Bounded};
+
+// The kinds are the numbers below this one, without 0.
+const KINDS: u8 = format::LocationRecord::KIND + 1;
+
+// The length of the body of each kind of record, from 0, which is no kind. One byte each: where it is used, the table is stored anew.
+const BODY_LENGTHS: [u8; KINDS as usize] = [
+    0,
+    format::HeaderRecord::LEN as u8,
+    format::MissionRecord::LEN as u8,
+    format::DwellRecord::LEN as u8,
+    format::TargetRecord::LEN as u8,
+    format::TextRecord::LEN as u8,
+    format::PieceRecord::LEN as u8,
+    format::OpaqueRecord::LEN as u8,
+    format::JobRecord::LEN as u8,
+    format::TestRecord::LEN as u8,
+    format::LocationRecord::LEN as u8,
+];
+
+// A byte as a wider number: where it is used, no proof is asked that it fits.
+fn wide(x: u8) -> usize
+    ensures { λ r. ⌜ r ≡ x ⌝ }
+{
+    x as usize
+}
+
+// The length of the body that a kind fixes. Most records are targets or pieces: known by a test, they are passed over without waiting for the
+// table.
+fn body_length(kind: u8) -> usize
+    ensures { λ r. ⌜ (r ≡ bodyLength kind) × (r ≤ 87) ⌝ }
+{
+    if kind == format::TargetRecord::KIND {
+        return format::TargetRecord::LEN;
+    }
+    if kind == format::PieceRecord::KIND {
+        return format::PieceRecord::LEN;
+    }
+    if kind < KINDS {
+        wide(BODY_LENGTHS[kind as usize])
+    } else {
+        0
+    }
+}
+
+// What is at a place of a sheet.
+pub enum Place {
+    // A whole record: its kind, and the place behind its body. The body begins behind the byte of kind.
+    Whole(u8, usize),
+    // The sheet's end.
+    End,
+    // A record that is cut or of no kind.
+    Cut,
+}
+
+// Any bytes may be handed in, and any place.
+pub fn record_at(x: &[u8], at: usize) -> Place
+    ensures { λ r. ⌜ r ≡ placeAt (now (x .entry)) at ⌝ }
+{
+    if x.len() <= at {
+        return Place::End;
+    }
+    let kind = x[at];
+    let n = body_length(kind);
+    if n == 0 {
+        return Place::Cut;
+    }
+    let behind = x.len() - at - 1;
+    if behind < n {
+        return Place::Cut;
+    }
+    let end = at + 1 + n;
+    Place::Whole(kind, end)
+}
+
+// Whether row 17 lets a sheet pass from a place behind its header on: whole records to its end, of which none is a header.
+pub fn is_rest(x: &[u8], start: usize) -> bool
+    ensures { λ r. ⌜ r ≡ isRest (listed (drop start (now (x .entry)))) ⌝ }
+{
+    let mut at = start;
+    loop {
+        match record_at(x, at) {
+            Place::End => return true,
+            Place::Cut => return false,
+            Place::Whole(kind, end) => {
+                if kind == format::HeaderRecord::KIND {
+                    return false;
+                }
+                at = end;
+            }
+        }
+    }
+}
+
+// Whether a record of the kind follows another one: a target or a piece.
+pub fn is_follower(kind: u8) -> bool
+    ensures { λ r. ⌜ r ≡ (eqb kind 4 || eqb kind 6) ⌝ }
+{
+    kind == format::TargetRecord::KIND || kind == format::PieceRecord::KIND
+}
+
+// What a record says that begins a segment.
+pub struct Lead {
+    pub segment_type: u8,
+    // How many bytes it gives to the segment's body.
+    pub given: usize,
+    // The kind that is due behind it, how much of it, and how many bytes of the body each of these takes.
+    pub follower: u8,
+    pub left: usize,
+    pub each: usize,
+}
+
+// A record with nothing behind it.
+fn alone(segment_type: u8, given: usize) -> Lead
+    requires { ⌜ given ≤ 87 ⌝ }
+    ensures { λ r. ⌜ Bounded r ⌝ }
+    ensures { λ r. ⌜ r ≡ record { «segment_type» = «segment_type»; given = given; follower = 0; left = 0; each = 1 } ⌝ }
+{
+    Lead {
+        segment_type: segment_type,
+        given: given,
+        follower: 0,
+        left: 0,
+        each: 1,
+    }
+}
+
+// A record with pieces behind it, of so many bytes.
+fn in_pieces(segment_type: u8, given: usize, bytes: u32) -> Lead
+    requires { ⌜ given ≤ 87 ⌝ }
+    ensures { λ r. ⌜ Bounded r ⌝ }
+    ensures { λ r. ⌜ r ≡ record { «segment_type» = «segment_type»; given = given; follower = 6; left = bytes; each = 1 } ⌝ }
+{
+    Lead {
+        segment_type: segment_type,
+        given: given,
+        follower: format::PieceRecord::KIND,
+        left: bytes as usize,
+        each: 1,
+    }
+}
+
+// A dwell, with D5 targets behind it.
+fn with_targets(b: &[u8]) -> Lead
+    requires { ⌜ length (now b) ≡ bodyLength 3 ⌝ }
+    ensures { λ r. ⌜ Bounded r ⌝ }
+    ensures { λ r. ⌜ r ≡ leadOf (record { kind = 3; body = now (b .entry) }) ⌝ }
+{
+    let mask = octets::get_u64(b, 0);
+    let targets = octets::get_u16(b, format::DwellRecord::D5);
+    Lead {
+        segment_type: 2,
+        given: 8 + mask::dwell_length(mask),
+        follower: format::TargetRecord::KIND,
+        left: targets as usize,
+        each: mask::target_length(mask),
+    }
+}
+
+// By the record's kind.
+pub fn lead_of(kind: u8, b: &[u8]) -> Lead
+    requires { ⌜ (length (now b) ≡ bodyLength kind) × (1 ≤ length (now b)) ⌝ }
+    ensures { λ r. ⌜ Bounded r ⌝ }
+    ensures { λ r. ⌜ r ≡ leadOf (record { kind = kind; body = now (b .entry) }) ⌝ }
+{
+    match kind {
+        format::MissionRecord::KIND => alone(1, b.len()),
+        format::DwellRecord::KIND => with_targets(b),
+        format::TextRecord::KIND => {
+            let bytes = octets::get_u32(b, format::TextRecord::F3_LENGTH);
+            in_pieces(6, format::TextRecord::F3_LENGTH, bytes)
+        }
+        format::OpaqueRecord::KIND => {
+            let bytes = octets::get_u32(b, format::OpaqueRecord::BODY_LENGTH);
+            in_pieces(b[0], 0, bytes)
+        }
+        format::JobRecord::KIND => alone(5, format::JobRecord::MARK),
+        format::TestRecord::KIND => alone(10, b.len()),
+        format::LocationRecord::KIND => alone(13, b.len()),
+        _ => alone(b[0], b.len()),
+    }
+}
+
+// The size S2 of the segment that the record begins.
+pub fn segment_size(l: Lead) -> usize
+    requires { ⌜ Bounded l ⌝ }
+    ensures { λ r. ⌜ (r ≡ sizeBy l) × (r ≤ 154618822712) ⌝ }
+{
+    5 + l.given + l.left * l.each
+}
+
+// How much of what is left of its kind the next follower has: a piece 32 bytes or, the last, all; any other is one.
+pub fn share(follower: u8, left: usize) -> usize
+    ensures { λ r. ⌜ r ≡ shareOf (due follower left) ⌝ }
+{
+    if follower == format::PieceRecord::KIND {
+        if left < format::PieceRecord::FULL {
+            left
+        } else {
+            format::PieceRecord::FULL
+        }
+    } else {
+        1
+    }
+}
+
+// How much a follower has: a piece by its count.
+pub fn carried(kind: u8, b: &[u8]) -> usize
+    requires { ⌜ length (now b) ≡ bodyLength kind ⌝ }
+    ensures { λ r. ⌜ r ≡ carriedBy (record { kind = kind; body = now (b .entry) }) ⌝ }
+{
+    if kind == format::PieceRecord::KIND {
+        wide(b[0])
+    } else {
+        1
+    }
+}

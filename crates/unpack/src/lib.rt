@@ -1,0 +1,60 @@
+// One announced field laid out at its full width: from p on in s, to q on in o; each of `field1`, `field2` and `field4` answers where the
+// next field begins in s. The functions of dwells and targets, which lay out several, promise the same over longer lists of widths.
+ghost use mathlib.Core.Path.{_≡_};
+ghost use mathlib.Core.List.{[], _∷_};
+ghost use Prim.Native.Nat.{_≤_};
+ghost use lib.Bits.{bitAnd};
+ghost use lib.Dec.{eqb};
+ghost use Rattle.unpack.specs.Laid.{Room, Laid};
+
+pub fn field1(s: &[u8], p: usize, mask: u64, n: usize, o: &mut [u8], q: usize) -> usize
+    requires { ⌜ (2 ≤ n) × (n ≤ 65) × Room mask n (1 ∷ []) (now s) p (now o) q ⌝ }
+    ensures { λ r. ⌜ Laid mask n (1 ∷ []) (now (s .entry)) p (now (o .entry)) q r (now (o .exit)) ⌝ }
+{
+    if mask::has(mask, n) {
+        copies::copy1(s, p, o, q);
+        p + 1
+    } else {
+        copies::clear1(o, q);
+        p
+    }
+}
+
+pub fn field2(s: &[u8], p: usize, mask: u64, n: usize, o: &mut [u8], q: usize) -> usize
+    requires { ⌜ (2 ≤ n) × (n ≤ 65) × Room mask n (2 ∷ []) (now s) p (now o) q ⌝ }
+    ensures { λ r. ⌜ Laid mask n (2 ∷ []) (now (s .entry)) p (now (o .entry)) q r (now (o .exit)) ⌝ }
+{
+    if mask::has(mask, n) {
+        copies::copy2(s, p, o, q);
+        p + 2
+    } else {
+        copies::clear2(o, q);
+        p
+    }
+}
+
+pub fn field4(s: &[u8], p: usize, mask: u64, n: usize, o: &mut [u8], q: usize) -> usize
+    requires { ⌜ (2 ≤ n) × (n ≤ 65) × Room mask n (4 ∷ []) (now s) p (now o) q ⌝ }
+    ensures { λ r. ⌜ Laid mask n (4 ∷ []) (now (s .entry)) p (now (o .entry)) q r (now (o .exit)) ⌝ }
+{
+    if mask::has(mask, n) {
+        copies::copy4(s, p, o, q);
+        p + 4
+    } else {
+        copies::clear4(o, q);
+        p
+    }
+}
+
+// Whether the mask has every field of the set, and whether it has none.
+pub fn has_all(mask: u64, set: u64) -> bool
+    ensures { λ r. ⌜ r ≡ eqb (bitAnd mask set) set ⌝ }
+{
+    mask & set == set
+}
+
+pub fn has_none(mask: u64, set: u64) -> bool
+    ensures { λ r. ⌜ r ≡ eqb (bitAnd mask set) 0 ⌝ }
+{
+    mask & set == 0
+}

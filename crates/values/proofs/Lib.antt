@@ -1,4 +1,0 @@
-pub mod Numbers
-pub mod Positions
-pub mod Turns
-pub mod Within

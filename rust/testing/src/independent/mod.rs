@@ -1,0 +1,23 @@
+//! A plain, field by field reader and writer of GMTI packets and their sheet.
+//!
+//! `tables` holds the names, widths and ranges of the document in its order,
+//! `dwell` the mask and the dwell's layout, `positions` the arithmetic of
+//! latitude and longitude, `packet` the reading and the segments, `read` the rows
+//! 1 to 16, `sheet` the records, `write` the rows 17 to 20, and `editions` what
+//! tells the two readings of a version 3 packet apart.
+
+mod dwell;
+mod editions;
+mod packet;
+mod positions;
+mod read;
+mod sheet;
+mod tables;
+mod write;
+
+#[cfg(test)]
+mod trials;
+
+pub use editions::{fill_in, first_new};
+pub use read::read;
+pub use write::write;

@@ -1,0 +1,136 @@
+//! The packets of samples read as samples/README.md says, by the verified library and by the independent implementation.
+use gmti::Answer;
+use std::collections::BTreeSet;
+use std::fs;
+use std::path::{Path, PathBuf};
+use std::process::Command;
+use testing::{independent, root};
+
+fn samples() -> PathBuf {
+    root().join("samples")
+}
+
+fn bytes_of(file: &str) -> Vec<u8> {
+    fs::read(samples().join(file)).unwrap_or_else(|error| panic!("{file}: {error}"))
+}
+
+/// The names of the folder's packets.
+fn files() -> BTreeSet<String> {
+    let names = fs::read_dir(samples()).unwrap().map(|entry| entry.unwrap().file_name().into_string().unwrap());
+    names.filter(|name| name.ends_with(".gmti")).collect()
+}
+
+/// The rows of README.md's table that has this heading, each as its cells without back quotes.
+fn table(heading: &str) -> Vec<Vec<String>> {
+    let readme = fs::read_to_string(samples().join("README.md")).unwrap();
+    let lines = readme.lines().skip_while(|line| !line.starts_with(heading)).skip(2);
+    let rows = lines.take_while(|line| line.starts_with('|'));
+    rows.map(|row| row.trim_matches('|').split('|').map(|cell| cell.trim().trim_matches('`').to_string()).collect()).collect()
+}
+
+/// For each file the Edition 3 and the Edition 1 answer, as printed.
+fn answers() -> Vec<(String, String, String)> {
+    table("| File |").into_iter().map(|row| (row[0].clone(), row[2].clone(), row[3].clone())).collect()
+}
+
+type Reader = fn(u32, &[u8], &mut [u8]) -> Answer;
+
+/// What the reader answers, and the lent sheet afterwards.
+fn reading(reader: Reader, edition: u32, packet: &[u8]) -> (Answer, Vec<u8>) {
+    let mut sheet = vec![0xAA; 4096];
+    let answer = reader(edition, packet, &mut sheet);
+    (answer, sheet)
+}
+
+/// Both implementations read the packet as the table says and leave the same lent sheet, untouched where they refuse.
+fn assert_reads(name: &str, packet: &[u8], edition: u32, expected: &str) {
+    let (answer, sheet) = reading(gmti::read, edition, packet);
+    assert_eq!(answer.to_string(), expected, "{name}, Edition {edition}");
+    assert_eq!(reading(independent::read, edition, packet), (answer, sheet.clone()), "{name}, Edition {edition}");
+    assert!(sheet[answer.length as usize..].iter().all(|&byte| byte == 0xAA), "{name}, Edition {edition}");
+}
+
+#[test]
+fn every_file_has_one_row() {
+    let rows: Vec<String> = answers().into_iter().map(|(file, _, _)| file).collect();
+    assert_eq!(rows.iter().cloned().collect::<BTreeSet<_>>(), files());
+    assert_eq!(rows.len(), files().len());
+}
+
+#[test]
+fn files_read_as_the_table_says() {
+    for (file, edition_3, edition_1) in answers() {
+        let packet = bytes_of(&file);
+        assert_reads(&file, &packet, 3, &edition_3);
+        assert_reads(&file, &packet, 1, &edition_1);
+    }
+}
+
+#[test]
+fn accepted_sheets_are_written_back() {
+    let mut accepted = 0;
+    for file in files() {
+        let packet = bytes_of(&file);
+        let (answer, sheet) = reading(gmti::read, 3, &packet);
+        if !answer.is_accepted() {
+            continue;
+        }
+        accepted += 1;
+        for writer in [gmti::write, independent::write] {
+            let mut back = vec![0xAA; packet.len() + 1];
+            let written = writer(&sheet[..answer.length as usize], &mut back);
+            assert_eq!(written, Answer { length: packet.len() as u32, ..answer }, "{file}");
+            assert_eq!(back, [&packet[..], &[0xAA]].concat(), "{file}");
+        }
+    }
+    assert_eq!(accepted, answers().iter().filter(|(_, edition_3, _)| edition_3.starts_with("ok")).count());
+}
+
+#[test]
+fn packets_of_the_recording_read_as_the_table_says() {
+    let recording = bytes_of("recording.gmti");
+    let mut at = 0;
+    for (i, row) in table("| Packet |").iter().enumerate() {
+        let length = u32::from_be_bytes(recording[at + 2..at + 6].try_into().unwrap()) as usize;
+        assert_eq!([&row[0], &row[1], &row[2]], [&(i + 1).to_string(), &at.to_string(), &length.to_string()]);
+        let packet = &recording[at..at + length];
+        if row[3].ends_with(".gmti") {
+            assert_eq!(packet, bytes_of(&row[3]), "packet {}", i + 1);
+        }
+        assert_reads("recording.gmti", packet, 3, &row[4]);
+        assert_reads("recording.gmti", packet, 1, &row[5]);
+        at += length;
+    }
+    assert_eq!(at, recording.len());
+}
+
+/// D27 with its mark and J26 with its mark, of a sheet whose second record is a dwell and whose last is a job.
+fn withheld_fields(edition: u32, file: &str) -> [u8; 5] {
+    let (answer, sheet) = reading(gmti::read, edition, &bytes_of(file));
+    let (dwell, job) = (33, answer.length as usize - 70);
+    assert_eq!((sheet[dwell], sheet[job]), (3, 8), "{file}");
+    [sheet[dwell + 78], sheet[dwell + 79], sheet[dwell + 87], sheet[job + 66], sheet[job + 69]]
+}
+
+#[test]
+fn d27_and_j26_are_shown_and_withheld() {
+    let d27 = (10.0f64 * 65536.0 / 360.0).round() as u16;
+    let shown = [(d27 >> 8) as u8, d27 as u8, 1, 60, 1];
+    assert_eq!(withheld_fields(1, "version_1_dwell_and_job.gmti"), shown);
+    assert_eq!(withheld_fields(3, "version_1_dwell_and_job.gmti"), shown);
+    assert_eq!(withheld_fields(3, "version_3_dwell_and_job.gmti"), shown);
+    assert_eq!(withheld_fields(1, "version_3_dwell_and_job.gmti"), [0; 5]);
+}
+
+#[test]
+fn make_writes_the_same_bytes() {
+    let folder = Path::new(env!("CARGO_TARGET_TMPDIR")).join("samples");
+    fs::create_dir_all(&folder).unwrap();
+    let made = Command::new("python3").arg("-B").arg(samples().join("make.py")).arg(&folder).status();
+    assert!(made.expect("python3 did not start").success());
+    for file in files() {
+        assert_eq!(fs::read(folder.join(&file)).unwrap(), bytes_of(&file), "{file}");
+        fs::remove_file(folder.join(&file)).unwrap();
+    }
+    assert_eq!(fs::read_dir(&folder).unwrap().count(), 0, "make.py writes a file that is not in samples");
+}
