@@ -1,6 +1,6 @@
 -- The walk that checks: what one segment adds to the answer, and how large it can be.
 -- Assumes nothing.
-use Prim.Native.Nat.{ℕ, suc, _+_, _-_, _≤_, _<_}
+use Prim.Native.Nat.{ℕ, suc, _+_, _-_, _*_, _≤_, _<_}
 use native.Mathlib.Omega.{arith}
 use mathlib.Core.Path.{_≡_, refl, sym, ap, ap₂, _∙_}
 use mathlib.Core.Bool.{Bool, true, false, cond}
@@ -20,7 +20,7 @@ use Rattle.format.specs.declared.Check.the-variants.{Passed, Failed}
 use Rattle.format.specs.declared.Answer.the-variants.{Accepted, Refused}
 use Rattle.format.specs.Packet.{Segment, typeAt, sizeAt, bodyAt}
 use Rattle.format.specs.Dwell.{maskOf, dwellFields, targetCount}
-use Rattle.format.specs.Sheet.{pieceCount, segmentRecords, packetRecords, recordBytes}
+use Rattle.format.specs.Sheet.{recordLength, pieceCount, segmentRecords, packetRecords, recordBytes}
 use Rattle.format.specs.Rows.{firstRow, segmentRows}
 use Rattle.format.specs.Reader.{Parsed, parse, targetsIn}
 use Rattle.format.proofs.Types.{by-number}
@@ -90,11 +90,15 @@ count-lt : (b : List ℕ) → Bytes b → targetCount b < 65536
 unfolding targetCount value total dwellFields
 count-lt b h = be-lt 2 _ (drop-bytes 5 (fullFields (maskOf b) 2 dwellWidths (drop 8 b)) (full-bytes (maskOf b) 2 dwellWidths (drop 8 b) (drop-bytes 8 b h)))
 
+-- more bytes than the records of any segment have: a dwell's, and those of as many targets as two bytes count
+abbrev pub most : ℕ
+most = recordLength 3 + 65536 * recordLength 4
+
 -- the records of a segment of at most 65,536 bytes
-records-le : (type : ℕ) (b : List ℕ) → length b ≤ 65536 → targetCount b < 65536 → recordsOf type b ≤ 3000000
+records-le : (type : ℕ) (b : List ℕ) → length b ≤ 65536 → targetCount b < 65536 → recordsOf type b ≤ most
 unfolding pieceCount
 records-le type b h t =
-    by-number (λ (k : ℕ). recordsOf k b ≤ 3000000) (omega arith) (omega arith) (omega arith) (omega arith) (omega arith) (omega arith)
+    by-number (λ (k : ℕ). recordsOf k b ≤ most) (omega arith) (omega arith) (omega arith) (omega arith) (omega arith) (omega arith)
     (λ k h1 h2 h5 h6 h10 h13. rw (h1, h2, h5, h6, h10, h13) (omega arith))
     type
 
@@ -103,7 +107,7 @@ pub record Fit (l : List ℕ) (size targets n : ℕ) : Type 0 where
   pub header : 5 ≤ size
   pub within : size ≤ length l
   pub few : targets ≤ 65535
-  pub short : n ≤ 3000000
+  pub short : n ≤ most
 
 -- they hold of a good segment of a packet
 pub fit : (r : Reading) (l : List ℕ) (z t n : ℕ) → length l ≤ 65536 → Bytes l → IsGood r l z t n → Fit l z t n

@@ -15,7 +15,7 @@ use Rattle.octets.specs.Layout.{total}
 use Rattle.octets.proofs.Laws.{length-bytes, then}
 use Rattle.mask.specs.Fields.{announcedLength, announcedFields, dwellWidths, targetWidths}
 use Rattle.mask.proofs.FullWidth.{length-announced}
-use Rattle.format.specs.Sheet.{Record, bodyLength}
+use Rattle.format.specs.Sheet.{Record, bodyLength, recordLength}
 use Rattle.format.specs.Writer.{given, givenBehind}
 use Rattle.sheet_walk.specs.declared.Lead.{Lead}
 use Rattle.sheet_walk.specs.Shape.{leadOf, sizeBy}
@@ -102,9 +102,9 @@ module _ (leader : List ℕ) (kind : ℕ) (b : List ℕ) where
 
   -- how long the body is, and what these give
   module _ (size : length b ≡ bodyLength kind) where
-    pub target-long : kind ≡ 4 → length b ≡ 44
+    pub target-long : kind ≡ 4 → 1 + length b ≡ recordLength 4
     unfolding bodyLength
-    target-long e = size ∙ ap bodyLength e
+    target-long e = ap (λ (n : ℕ). 1 + n) (size ∙ ap bodyLength e)
 
     pub target-length : kind ≡ 4 → (mask : ℕ) → mask ≡ be 8 leader → announcedLength mask 32 targetWidths ≡ length (spelt (leading leader) (recordIn kind b))
     unfolding total

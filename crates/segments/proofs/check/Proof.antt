@@ -15,7 +15,7 @@ use Rattle.format.specs.Reader.{parse}
 use Rattle.segments.specs.declared.Dwells.{Dwells}
 use Rattle.segments.specs.Walk.{noDwells, Among, answerFrom}
 use Rattle.segments.proofs.Counting.{past-among}
-use Rattle.segments.proofs.Walking.{IsGood, here-good, Fit, fit, from-good, from-bad, from-end}
+use Rattle.segments.proofs.Walking.{most, IsGood, here-good, Fit, fit, from-good, from-bad, from-end}
 use Rattle.segments.proofs.check.Statement.{statement}
 use Rattle.segments.proofs.check.Tie as tie
 
@@ -27,7 +27,7 @@ pub record Counted (r : Reading) (l : List ℕ) (at segments : ℕ) (dwells : Dw
   pub segments-le : segments ≤ at
   pub dwells-le : Among segments dwells
   pub targets-le : targets ≤ 65535 * at
-  pub length-le : n ≤ recordLength 1 + 3000000 * at
+  pub length-le : n ≤ recordLength 1 + most * at
   pub rest : answerFrom r (parse r k (drop at l)) segments dwells targets n ≡ answerFrom r (parse r (length l) l) 0 noDwells 0 (recordLength 1)
 
 abbrev Inv-loop : tie.InvT-loop
