@@ -14,13 +14,13 @@ ghost use Rattle.dwell_checks.specs.Plan.{Headed, Bounded, Holds, planOf
 use format::Check;
 
 // What a walk over a dwell needs of it: the mask, where the targets start in the body, the bytes of each, how many they are, and what their
-// positions take from the dwell. It is worked out once for each walk, and handed on.
+// positions take from the dwell. It is worked out once for each walk, and handed on. With the area first, the loop over targets is fastest.
 pub struct Plan {
-    pub mask: u64,
-    pub start: usize,
-    pub each: usize,
-    pub count: usize,
     pub area: format::Area,
+    pub mask: u64,
+    pub each: usize,
+    pub start: usize,
+    pub count: usize,
 }
 
 // The bytes that field n of width w takes.
