@@ -63,14 +63,11 @@ module _ (b : List ℕ) (required : Required (maskOf b)) where
 
 -- a dwell to which no row applies has its announced fields
 module _ (b : List ℕ) (k : IsDwell b) where
-  pub headed : Headed (maskOf b) b
-  headed = (refl, k .required, omega (arith, k .exact))
+  pub headed : {m : ℕ} → m ≡ maskOf b → Headed m b
+  headed e = subst (λ (m : ℕ). Headed m b) (sym e) (refl, k .required, omega (arith, k .exact))
 
   -- its targets lie where the plan says, and no row applies to them
   module _ (p : Plan) (e : p ≡ planOf b) where
-    pub plan-headed : Headed (p .mask) b
-    plan-headed = subst (λ (q : Plan). Headed (q .mask) b) (sym e) headed
-
     pub start-within : p .start ≤ length b
     start-within = omega (arith, targets-within b (k .required) p e (k .exact))
 

@@ -136,11 +136,10 @@ fn plan_by(b: &[u8], mask: u64, start: usize, each: usize, count: usize) -> Plan
     }
 }
 
-pub fn plan_of(b: &[u8]) -> Plan
-    requires { ⌜ Headed (maskOf (now b)) (now b) ⌝ }
+pub fn plan_of(b: &[u8], mask: u64) -> Plan
+    requires { ⌜ Headed mask (now b) ⌝ }
     ensures { λ p. ⌜ (p ≡ planOf (now (b .entry))) × Bounded (p .area) ⌝ }
 {
-    let mask = octets::get_u64(b, 0);
     let start = 8 + mask::dwell_length(mask);
     plan_by(
         b,

@@ -78,9 +78,10 @@ pub fn dwell_records(r: format::Reading, b: &[u8], o: &mut [u8])
     requires { ⌜ (firstRow (dwellRows r (now b)) ≡ Passed) × (recordLength 3 + targetCount (now b) * recordLength 4 ≤ length (now o)) ⌝ }
     ensures { λ _. ⌜ now (o .exit) ≡ sets (now (o .entry)) 0 (recordBytes (dwellRecords r (now (b .entry)))) ⌝ }
 {
-    let p = dwell_checks::plan_of(b);
+    let mask = octets::get_u64(b, 0);
+    let p = dwell_checks::plan_of(b, mask);
     let start = p.start;
-    dwell_record(r, b, p.mask, o);
+    dwell_record(r, b, mask, o);
     target_records(
         &b[start..],
         p,

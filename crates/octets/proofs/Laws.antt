@@ -34,6 +34,15 @@ be-lt (suc k) s h = omega (arith, be-lt k s h, h k, pow-suc 256 k)
 pub joined : (j k : ℕ) (s : List ℕ) (at : ℕ) {a b : ℕ} → a ≡ be j (drop at s) → b ≡ be k (drop (at + j) s) → a * 256 ^ k + b ≡ be (j + k) (drop at s)
 joined j k s at ha hb = rw (be-split, drop-drop) (cc)
 
+-- a number of 8 bytes from its four parts of 2
+pub joined-4 : (s : List ℕ) (at : ℕ) {a b c d : ℕ} → a ≡ be 2 (drop at s) → b ≡ be 2 (drop (at + 2) s) → c ≡ be 2 (drop (at + 4) s) → d ≡ be 2 (drop (at + 6) s)
+    → a * 256 ^ 6 + b * 256 ^ 4 + c * 256 ^ 2 + d ≡ be 8 (drop at s)
+joined-4 s at {a} {b} {c} {d} ea eb ec ed =
+    let high : a * 256 ^ 2 + b ≡ be 4 (drop at s) = joined 2 2 s at ea eb in
+    let place : at + 6 ≡ at + 4 + 2 = omega arith in
+    let low : c * 256 ^ 2 + d ≡ be 4 (drop (at + 4) s) = joined 2 2 s (at + 4) ec (ed ∙ ap (λ (i : ℕ). be 2 (drop i s)) place) in
+    omega (arith, joined 4 4 s at high low)
+
 pub length-bytes : (k n : ℕ) → length (bytes k n) ≡ k
 unfolding bytes
 length-bytes zero n = refl

@@ -26,11 +26,15 @@ pub fn get_u32(s: &[u8], at: usize) -> u32
     (get_u16(s, at) as u32) * 65536 + get_u16(s, at + 2) as u32
 }
 
+// One sum of four numbers and not two of 32 bits: of two the compiler makes no single move.
 pub fn get_u64(s: &[u8], at: usize) -> u64
     requires { ⌜ at + 8 ≤ length (now s) ⌝ }
     ensures { λ r. ⌜ r ≡ be 8 (drop at (now (s .entry))) ⌝ }
 {
-    (get_u32(s, at) as u64) * 4294967296 + get_u32(s, at + 4) as u64
+    (get_u16(s, at) as u64) * 281474976710656
+        + (get_u16(s, at + 2) as u64) * 4294967296
+        + (get_u16(s, at + 4) as u64) * 65536
+        + get_u16(s, at + 6) as u64
 }
 
 // The two's complement reading of the bits. A cast may lose nothing, so the upper half is counted down from -1.

@@ -88,9 +88,10 @@ fn same_dwell(r: format::Reading, b: &[u8], x: &[u8], window: &mut [u8]) -> bool
     requires { ⌜ (firstRow (dwellRows r (now b)) ≡ Passed) × (recordLength 3 + targetCount (now b) * recordLength 4 ≡ length (now x)) × (windowLength ≤ length (now window)) ⌝ }
     ensures { λ same. ⌜ same ≡ isSame (recordBytes (dwellRecords r (now (b .entry)))) (now (x .entry)) ⌝ }
 {
-    let p = dwell_checks::plan_of(b);
+    let mask = octets::get_u64(b, 0);
+    let p = dwell_checks::plan_of(b, mask);
     let start = p.start;
-    dwell_records::dwell_record(r, b, p.mask, window);
+    dwell_records::dwell_record(r, b, mask, window);
     if !is_front(window, &x[0..format::DwellRecord::WHOLE]) {
         return false;
     }

@@ -11,7 +11,7 @@ use format::Answer;
 use format::Check;
 
 // The records of a segment that is checked, by its type.
-pub fn segment_records(r: format::Reading, segment_type: u8, b: &[u8], o: &mut [u8])
+fn lay_out(r: format::Reading, segment_type: u8, b: &[u8], o: &mut [u8])
     requires { ⌜ Checked r «segment_type» (now b) × (length (bytesOf r «segment_type» (now b)) ≤ length (now o)) ⌝ }
     ensures { λ _. ⌜ now (o .exit) ≡ sets (now (o .entry)) 0 (bytesOf r «segment_type» (now (b .entry))) ⌝ }
 {
@@ -26,6 +26,16 @@ pub fn segment_records(r: format::Reading, segment_type: u8, b: &[u8], o: &mut [
     }
 }
 
+// The same, and how many bytes they take: in one function, where the compiler goes by the type once.
+pub fn segment_records(r: format::Reading, segment_type: u8, b: &[u8], o: &mut [u8]) -> usize
+    requires { ⌜ Checked r «segment_type» (now b) × (length (bytesOf r «segment_type» (now b)) ≤ length (now o)) ⌝ }
+    ensures { λ n. ⌜ n ≡ length (bytesOf r «segment_type» (now (b .entry))) ⌝ }
+    ensures { λ _. ⌜ now (o .exit) ≡ sets (now (o .entry)) 0 (bytesOf r «segment_type» (now (b .entry))) ⌝ }
+{
+    lay_out(r, segment_type, b, o);
+    segments::records_length(r, segment_type, b)
+}
+
 // The records of all segments of l, the packet behind its header, once no row applies.
 fn packet_records(r: format::Reading, l: &[u8], o: &mut [u8])
     requires { ⌜ CheckedAll r (now l) × (length (allBytes r (now l)) ≤ length (now o)) ⌝ }
@@ -38,8 +48,7 @@ fn packet_records(r: format::Reading, l: &[u8], o: &mut [u8])
         let size = segments::size_at(t);
         let segment_type = t[0];
         let b = &t[5..size];
-        segment_records(r, segment_type, b, &mut o[to..]);
-        to += segments::records_length(r, segment_type, b);
+        to += segment_records(r, segment_type, b, &mut o[to..]);
         at += size;
     }
 }

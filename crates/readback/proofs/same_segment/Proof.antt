@@ -58,7 +58,7 @@ returns c =
     let laid = c .before .before .before .before in
     let test = laid .before .before in
     let s = test .before .before .before .before in
-    filled-same (bytesAs s (s .args .segment-type)) (x s) (now (s .args .window)) _ (laid .segment-records .ensures) (s .pre .1) (omega (arith, test .if1 .taken, s .pre .2)) (c .is-front .ensures)
+    filled-same (bytesAs s (s .args .segment-type)) (x s) (now (s .args .window)) _ (laid .segment-records .ensures .1) (s .pre .1) (omega (arith, test .if1 .taken, s .pre .2)) (c .is-front .ensures)
 
 same-dwell-requires : tie.Need-same-dwell-requires
 unfolding bodyRows

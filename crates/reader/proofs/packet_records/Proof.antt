@@ -82,36 +82,36 @@ segment-records-requires c κs =
     let l = size .before .before .before .loop in
     (here size .checked, rw (tail-is (l .to) (l .o), length-drop) (omega (arith, room size)))
 
-records-length-requires : tie.Need-records-length-requires Inv-loop μ-loop
-records-length-requires c κs = here (c .before .before .before .before .before .before) .checked
-
 add-to : tie.Need-add-to Inv-loop μ-loop
 add-to c =
-    let size = c .before .before .before .before .before .before .before in
-    omega (arith, c .records-length .ensures, room size, size .before .before .before .before .before .before .good)
+    let laid = c .before .before in
+    let size = laid .before .before .before .before in
+    omega (arith, laid .segment-records .ensures .0, room size, size .before .before .before .before .before .before .good)
 
 add-at : tie.Need-add-at Inv-loop μ-loop
 add-at c =
-    let size = c .before .before .before .before .before .before .before in
+    let size = c .before .before .before .before .before .before in
     omega (arith, here size .within, size .before .before .before .before .before .before .good)
 
 loop-less : tie.Need-loop-less Inv-loop μ-loop
-loop-less c = let t = here (c .before .before .before .before .before .before .before) in omega (arith, t .header, t .within)
+loop-less c = let t = here (c .before .before .before .before .before .before) in omega (arith, t .header, t .within)
 
 loop-again : tie.Need-loop-again Inv-loop μ-loop
 loop-again c =
-    let laid = c .before .before .before in
+    let laid = c .before .before in
     let size = laid .before .before .before .before in
     let l = size .before .before .before .loop in
     let t = here size in
     let a = size .before .before .before .before .before .before .args in
     let first = bytesAt (a .r) (now (a .l)) (l .at) (size .size-at .result) in
+    let long = laid .segment-records .ensures .0 in
+    let stored = laid .segment-records .ensures .1 in
     record {
       left = t .next;
-      same = filled-length (l .o) first (l .to) (laid .segment-records .ensures) ∙ l .inv .same;
-      room = omega (arith, c .records-length .ensures, room size, l .inv .same);
+      same = filled-length (l .o) first (l .to) stored ∙ l .inv .same;
+      room = omega (arith, long, room size, l .inv .same);
       rest =
-          filled-next (l .o) (bytesLeft (t .next)) first (l .to) _ (c .records-length .ensures) (laid .segment-records .ensures)
+          filled-next (l .o) (bytesLeft (t .next)) first (l .to) _ long stored
           ∙ sym (ap (sets (l .o) (l .to)) (t .bytes-are))
           ∙ l .inv .rest;
     }
@@ -145,7 +145,6 @@ packet-records-spec =
     part-segment-records-start
     (λ c. search needs)
     segment-records-requires
-    records-length-requires
     add-to
     add-at
     loop-less

@@ -1,4 +1,4 @@
--- `reader::segment_records` meets its contract. Each type's filler is handed a body to which that type's rows do not apply.
+-- `reader::lay_out` meets its contract. Each type's filler is handed a body to which that type's rows do not apply.
 -- Assumes nothing.
 use Prim.Native.Nat.{ℕ, _≤_}
 use mathlib.Core.Path.{_≡_}
@@ -15,8 +15,8 @@ use Rattle.format.proofs.ByType.{rows-as, room-as, laid-as}
 use Rattle.format.proofs.Lengths.{recordsOf}
 use Rattle.segments.specs.Walk.{bytesOf}
 use Rattle.segments.proofs.Types.{room-other, laid-other}
-use Rattle.reader.proofs.segment_records.Statement.{statement}
-use Rattle.reader.proofs.segment_records.Tie as tie
+use Rattle.reader.proofs.lay_out.Statement.{statement}
+use Rattle.reader.proofs.lay_out.Tie as tie
 
 -- in the arm of type k: its rows do not apply, its records have room, and laid out they are the segment's
 module _ (s : tie.Start) (k : ℕ) (e : s .args .segment-type ≡ k) where
@@ -94,8 +94,8 @@ returns-7 c =
     let a = t .before .before .before .args in
     laid-other (a .r) (now (a .b)) (a .segment-type) (t .match .rest) (now (a .o)) (c .before .before .opaque-records .ensures)
 
-pub segment-records-spec : {M : Type 1} → statement M
-segment-records-spec =
+pub lay-out-spec : {M : Type 1} → statement M
+lay-out-spec =
     tie.close
     (tie.spec
     mission-records-requires
