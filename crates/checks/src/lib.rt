@@ -125,7 +125,7 @@ pub fn job_check(r: format::Reading, b: &[u8]) -> Check
     if !text::is_text(&b[5..11]) {
         return Check::Failed(10, 3);
     }
-    if editions::is_older(r) && editions::is_new_mode(b[45]) {
+    if editions::is_older(r) && editions::is_new_mode(b[format::JobRecord::J14]) {
         return Check::Failed(15, 14);
     }
     Check::Passed

@@ -4,7 +4,7 @@ ghost use mathlib.Core.Path.{_≡_};
 ghost use Prim.Native.Nat.{_+_, _≤_};
 ghost use lib.ListN.{length};
 ghost use lib.Seq.{sets};
-ghost use Rattle.copies.specs.Copied.{Room, copied, cleared};
+ghost use Rattle.copies.specs.InnerCopied.{Room, RoomForAll, copied, cleared};
 
 pub fn copy1(s: &[u8], p: usize, o: &mut [u8], q: usize)
     requires { ⌜ Room 1 (now s) p (now o) q ⌝ }
@@ -60,16 +60,7 @@ pub fn copy23(s: &[u8], p: usize, o: &mut [u8], q: usize)
     copy1(s, p + 22, o, q + 22);
 }
 
-pub fn copy14(s: &[u8], p: usize, o: &mut [u8], q: usize)
-    requires { ⌜ Room 14 (now s) p (now o) q ⌝ }
-    ensures { λ _. ⌜ now (o .exit) ≡ copied 14 (now (s .entry)) p (now (o .entry)) q ⌝ }
-{
-    copy8(s, p, o, q);
-    copy4(s, p + 8, o, q + 8);
-    copy2(s, p + 12, o, q + 12);
-}
-
-pub fn copy20(s: &[u8], p: usize, o: &mut [u8], q: usize)
+fn copy20(s: &[u8], p: usize, o: &mut [u8], q: usize)
     requires { ⌜ Room 20 (now s) p (now o) q ⌝ }
     ensures { λ _. ⌜ now (o .exit) ≡ copied 20 (now (s .entry)) p (now (o .entry)) q ⌝ }
 {
@@ -93,23 +84,43 @@ pub fn copy32(s: &[u8], p: usize, o: &mut [u8], q: usize)
     copy16(s, p + 16, o, q + 16);
 }
 
-pub fn copy39(s: &[u8], p: usize, o: &mut [u8], q: usize)
-    requires { ⌜ Room 39 (now s) p (now o) q ⌝ }
-    ensures { λ _. ⌜ now (o .exit) ≡ copied 39 (now (s .entry)) p (now (o .entry)) q ⌝ }
+// All of s, which has from 8 to 16 bytes: its first eight, and its last eight, which may overlap them. The next three are alike. Each serves
+// every length from its one number to its other, and of a length that the compiler knows nothing is left but moves of eight bytes.
+pub fn copy8_to_16(s: &[u8], o: &mut [u8], q: usize)
+    requires { ⌜ RoomForAll 8 16 (now s) (now o) q ⌝ }
+    ensures { λ _. ⌜ now (o .exit) ≡ sets (now (o .entry)) q (now (s .entry)) ⌝ }
 {
-    copy32(s, p, o, q);
-    copy4(s, p + 32, o, q + 32);
-    copy2(s, p + 36, o, q + 36);
-    copy1(s, p + 38, o, q + 38);
+    let last = s.len() - 8;
+    copy8(s, 0, o, q);
+    copy8(s, last, o, q + last);
 }
 
-pub fn copy68(s: &[u8], p: usize, o: &mut [u8], q: usize)
-    requires { ⌜ Room 68 (now s) p (now o) q ⌝ }
-    ensures { λ _. ⌜ now (o .exit) ≡ copied 68 (now (s .entry)) p (now (o .entry)) q ⌝ }
+pub fn copy16_to_24(s: &[u8], o: &mut [u8], q: usize)
+    requires { ⌜ RoomForAll 16 24 (now s) (now o) q ⌝ }
+    ensures { λ _. ⌜ now (o .exit) ≡ sets (now (o .entry)) q (now (s .entry)) ⌝ }
 {
-    copy32(s, p, o, q);
-    copy32(s, p + 32, o, q + 32);
-    copy4(s, p + 64, o, q + 64);
+    let last = s.len() - 8;
+    copy16(s, 0, o, q);
+    copy8(s, last, o, q + last);
+}
+
+pub fn copy32_to_40(s: &[u8], o: &mut [u8], q: usize)
+    requires { ⌜ RoomForAll 32 40 (now s) (now o) q ⌝ }
+    ensures { λ _. ⌜ now (o .exit) ≡ sets (now (o .entry)) q (now (s .entry)) ⌝ }
+{
+    let last = s.len() - 8;
+    copy32(s, 0, o, q);
+    copy8(s, last, o, q + last);
+}
+
+pub fn copy64_to_72(s: &[u8], o: &mut [u8], q: usize)
+    requires { ⌜ RoomForAll 64 72 (now s) (now o) q ⌝ }
+    ensures { λ _. ⌜ now (o .exit) ≡ sets (now (o .entry)) q (now (s .entry)) ⌝ }
+{
+    let last = s.len() - 8;
+    copy32(s, 0, o, q);
+    copy32(s, 32, o, q + 32);
+    copy8(s, last, o, q + last);
 }
 
 // All of s, byte by byte: for runs of any length, from the bytes of a last piece to a whole packet.

@@ -11,8 +11,8 @@ use lib.Dec.{eqb}
 use lib.ListN.{length, length-append}
 use Rattle.octets.specs.Layout.{total, zeroed}
 use Rattle.format.specs.Sheet.{Record, recordBytes}
-use Rattle.demands.specs.Filled.{dwellBodyWidths, jobBodyWidths, withheldRecord, withheldRecords, filledRecord, filledRecords}
-use Rattle.demands.proofs.Withheld.{withheld-body, filled-body, length-body}
+use Rattle.demands.specs.Filled.{dwellBodyWidths, jobBodyWidths, filledRecord, filledRecords}
+use Rattle.demands.proofs.Withheld.{withheldRecord, withheldRecords, withheld-body, filled-body, length-body}
 
 -- the older record and the newer one
 pub data Alike : Record → Record → Type 0 where

@@ -1,5 +1,6 @@
 pub mod Trials
 pub mod Walk
+pub mod First
 pub mod Answered
 pub mod Regroup
 pub mod Complete
@@ -13,5 +14,7 @@ pub mod Alike
 pub mod Places
 pub mod OlderRecords
 pub mod Editions
-pub mod Filled
+pub mod Version1
 pub mod Numbers
+pub mod Longitudes
+pub mod Named

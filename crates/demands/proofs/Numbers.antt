@@ -24,7 +24,8 @@ use Rattle.format.specs.declared.Answer.the-variants.{Accepted, Refused}
 use Rattle.format.specs.Packet.{headerWidths, headerTexts, Segment, typeAt, sizeAt, bodyAt, missionWidths, missionTexts, jobWidths, jobTexts, freeTextWidths, freeTextTexts}
 use Rattle.format.specs.Dwell.{maskOf, dwellFields, targetCount, targetsOf, targetLength, areaOf}
 use Rattle.format.specs.Edition.{asEdition, isOlder}
-use Rattle.format.specs.Sheet.{Record, bodyLength, longestSheet}
+use Rattle.format.specs.Sheet.{Record, bodyLength}
+use Rattle.format.specs.Lengths.{longestSheet}
 use Rattle.format.specs.Answer.{numbersOf}
 use Rattle.format.specs.Rows.{Row, firstRow, headerRows, missionRows, targetRows, targetsRows, dwellRows, jobRows, textRows, keptRows, bodyRows, segmentRows}
 use Rattle.format.specs.Reader.{Parsed, onward, parse, dwellsIn, targetsIn, readingOf, parsed, sheet, segmentsAnswer, readingAnswer, read}

@@ -15,7 +15,9 @@ use Rattle.format.specs.Packet.{Segment, sizeAt, typeAt, bodyAt, J}
 use Rattle.format.specs.Dwell.{maskOf}
 use Rattle.format.specs.Edition.{isOlder, isNewMode}
 use Rattle.format.specs.Rows.{firstRow, segmentRows}
-use Rattle.format.specs.New.{New, nothing, found, newRows, firstNew}
+use Rattle.format.specs.declared.New.{New}
+use Rattle.format.specs.declared.New.the-variants.{Nothing, Found}
+use Rattle.format.specs.New.{newRows, firstNew}
 use Rattle.format.specs.Reader.{Parsed, onward, parse}
 use Rattle.format.proofs.Rows.{passed-not-failed}
 use Rattle.demands.proofs.OlderRows.{segment-new}
@@ -36,14 +38,14 @@ new-is-15 s number field = go (eqb (s .type) 3) (not (eqb mask 0)) (eqb (s .type
 
 -- what the older walk gives where the newer one gives p3, by what is new from the segment with number n on
 abbrev pub Older : ℕ → Parsed → Parsed → New → Type 0
-Older n p1 p3 nothing = p1 ≡ p3
-Older n p1 p3 (found segment field) = (p1 .ending ≡ Failed 15 field) × (segment ≡ n + length (p1 .segments))
+Older n p1 p3 Nothing = p1 ≡ p3
+Older n p1 p3 (Found segment field) = (p1 .ending ≡ Failed 15 field) × (segment ≡ n + length (p1 .segments))
 
 -- one more segment before a rest that is known, where c is the first thing that is new in it
 one-more : (n : ℕ) (s : Segment) (p1 p3 : Parsed) (c : Check) (new : New) → ((number field : ℕ) → c ≡ Failed number field → number ≡ 15)
-    → Older (suc n) p1 p3 new → Older n (onward c s p1) (onward Passed s p3) (elim c [ Passed ↦ new | Failed number field ↦ found n field ])
-one-more n s p1 p3 Passed nothing is-15 h = ap (onward Passed s) h
-one-more n s p1 p3 Passed (found segment field) is-15 h = (h .0, omega (arith, h .1))
+    → Older (suc n) p1 p3 new → Older n (onward c s p1) (onward Passed s p3) (elim c [ Passed ↦ new | Failed number field ↦ Found n field ])
+one-more n s p1 p3 Passed Nothing is-15 h = ap (onward Passed s) h
+one-more n s p1 p3 Passed (Found segment field) is-15 h = (h .0, omega (arith, h .1))
 one-more n s p1 p3 (Failed number field) new is-15 h = (rw (is-15 number field refl), omega arith)
 
 -- r1 is the older reading of a packet that r3 reads too

@@ -15,8 +15,9 @@ use Rattle.format.specs.Sheet.{Record, bodyLength, recordBytes}
 use Rattle.format.specs.Writer.{listed}
 use Rattle.format.proofs.Records.{Formed, AllFormed}
 use Rattle.format.proofs.Listing.{listed-formed}
-use Rattle.demands.specs.Filled.{dwellBodyWidths, jobBodyWidths, withheldRecord, withheldRecords, withheldSheet}
+use Rattle.demands.specs.Filled.{dwellBodyWidths, jobBodyWidths}
 use Rattle.demands.specs.Places.{isInField, isInEither, isWithheldIn, isWithheldAt}
+use Rattle.demands.proofs.Withheld.{withheldRecord, withheldRecords, withheldSheet}
 
 -- ---- bytes of lists
 

@@ -18,11 +18,11 @@ use Rattle.format.specs.New.{newRows, firstNew}
 use Rattle.format.specs.Reader.{parse, dwellsIn, targetsIn, parsed, sheet, readingAnswer, read}
 use Rattle.format.specs.Writer.{list, noHeader, isHeaded, calledFor, isComplete, typeOf, given, givenBehind, regroup, segmentsBytes, spellRecords, spell, isSame, readsBack, sheetRows, writerRows, writingAnswer, write}
 use Rattle.format.specs.Samples.{packet, printed, northmost}
-use Rattle.demands.specs.Filled.{withheldRecord, withheldRecords, withheldSheet, filledRecord, filledRecords, filledIn}
+use Rattle.demands.specs.Filled.{filledRecord, filledRecords, filledIn}
 use Rattle.demands.specs.Places.{isInField, isWithheldIn, isWithheldAt}
 use Rattle.demands.specs.Counts.{count}
 use Rattle.demands.specs.Trials.{mixed, trials}
 
 pub all-trials : Holds trials
-unfolding trials mixed be bytes twos signed signedBytes pad over total field value signedValue replaced isTextByte isText textFault announced announcedLength fullFields announcedFields dwellSize isRequired isReserved isIn anySet isGap isGapIn isDoubled isFault firstFrom lowestFault newInMask isPlaced isLatitude reduced longitudeSum nearest rounded latitudeMicro fullCircle longitudeMicro isP1 version typeAt sizeAt bodyAt segmentBytes isKnown maskOf dwellFields targetCount targetsOf targetFields areaOf latitude longitude isOlder shown mark isNewMode bodyLength recordOf headerRecord dwellRecord targetRecord targetRecords pieceRecord pieceRecords pieceCount dwellRecords textRecords opaqueRecords jobRecords segmentRecords packetRecords recordBytes numbersOf leftBy firstRow headerRows missionRows targetRows targetsRows dwellRows jobRows textRows keptRows bodyRows segmentRows newRows firstNew parse dwellsIn targetsIn parsed sheet readingAnswer read list noHeader isHeaded calledFor isComplete typeOf given givenBehind regroup segmentsBytes spellRecords spell isSame readsBack sheetRows writerRows writingAnswer write packet printed northmost withheldRecord withheldRecords withheldSheet filledRecord filledRecords filledIn isInField isWithheldIn isWithheldAt count
-all-trials = (refl, (refl, (refl, (refl, (refl, (refl, (refl, (refl, (refl, (refl, (refl, (refl, tt))))))))))))
+unfolding trials mixed be bytes twos signed signedBytes pad over total field value signedValue replaced isTextByte isText textFault announced announcedLength fullFields announcedFields dwellSize isRequired isReserved isIn anySet isGap isGapIn isDoubled isFault firstFrom lowestFault newInMask isPlaced isLatitude reduced longitudeSum nearest rounded latitudeMicro fullCircle longitudeMicro isP1 version typeAt sizeAt bodyAt segmentBytes isKnown maskOf dwellFields targetCount targetsOf targetFields areaOf latitude longitude isOlder shown mark isNewMode bodyLength recordOf headerRecord dwellRecord targetRecord targetRecords pieceRecord pieceRecords pieceCount dwellRecords textRecords opaqueRecords jobRecords segmentRecords packetRecords recordBytes numbersOf leftBy firstRow headerRows missionRows targetRows targetsRows dwellRows jobRows textRows keptRows bodyRows segmentRows newRows firstNew parse dwellsIn targetsIn parsed sheet readingAnswer read list noHeader isHeaded calledFor isComplete typeOf given givenBehind regroup segmentsBytes spellRecords spell isSame readsBack sheetRows writerRows writingAnswer write packet printed northmost filledRecord filledRecords filledIn isInField isWithheldIn isWithheldAt count
+all-trials = (refl, (refl, (refl, (refl, (refl, (refl, (refl, (refl, (refl, (refl, (refl, tt)))))))))))

@@ -1,4 +1,5 @@
--- Fields put into runs of bytes: a field and its mark withheld, and filled in again, in a body of which the mark is the last byte.
+-- The sheet with its two withheld fields zeroed, which the older reading makes; and fields put into runs of bytes: a field and its mark
+-- withheld, and filled in again, in a body of which the mark is the last byte.
 -- Assumes nothing.
 use Prim.Native.Nat.{ℕ, _+_, _≤_}
 use native.Mathlib.Omega.{arith}
@@ -8,6 +9,26 @@ use lib.ListN.{length, take, drop, length-append, length-drop, take-append-drop,
 use lib.Seq.{length-take-le, take-append-le, drop-append-le, take-append-add, drop-append-add, take-at, drop-at, take-add}
 use Rattle.octets.specs.Layout.{pad, width, offset, field, replaced, zeroed, copied}
 use Rattle.octets.proofs.Layouts.{length-pad, length-zeroed}
+use Rattle.format.specs.Sheet.{Record, recordBytes}
+use Rattle.format.specs.Writer.{listed}
+use Rattle.demands.specs.Filled.{changed}
+
+-- ---- records with D27, J26 and their marks zero
+
+-- "those of fields D27 and J26 and their marks, which are zero"
+unfoldable pub withheldRecord : Record → Record
+withheldRecord r = changed (λ ws n mark b. zeroed 1 ws mark (zeroed 1 ws n b)) r
+
+-- so each record of a list
+unfoldable pub withheldRecords : List Record → List Record
+withheldRecords [] = []
+withheldRecords (r ∷ rs) = withheldRecord r ∷ withheldRecords rs
+
+-- a sheet with every D27, every J26 and their marks zero, and every other byte as it was
+unfoldable pub withheldSheet : List ℕ → List ℕ
+withheldSheet x = recordBytes (withheldRecords (listed x .records))
+
+-- ---- fields put into runs of bytes
 
 -- bytes put in behind the m bytes of a are put into what follows a
 pub put-behind : (a b v : List ℕ) (m o w : ℕ) → length a ≡ m → take (m + o) (a ++ b) ++ v ++ drop (m + (o + w)) (a ++ b) ≡ a ++ (take o b ++ v ++ drop (o + w) b)

@@ -36,16 +36,14 @@ use Rattle.demands.proofs.Counts.{counts-are}
 use Rattle.demands.proofs.AreBytes.{spell-bytes}
 use Rattle.format.proofs.Acceptance.{no-refusal, same-counts, same-length, Acceptable, accepted-when, accepted-only, header-sized, read-when, read-only}
 
--- ---- equal lists, by the test
-
 -- ---- from a packet to its sheet and back
 
-module _ (l : List ℕ) (lent : ℕ) (a : Acceptable (asEdition 3) l lent) where
-  -- the Edition 3 reading is never the older one
-  newest : isOlder (readingOf (asEdition 3) l) ≡ false
-  unfolding isOlder
-  newest = refl
+-- the Edition 3 reading is never the older one
+pub newest : (l : List ℕ) → isOlder (readingOf (asEdition 3) l) ≡ false
+unfolding isOlder
+newest l = refl
 
+module _ (l : List ℕ) (lent : ℕ) (a : Acceptable (asEdition 3) l lent) where
   -- no row applies to its segments
   sound : AllSound (readingOf (asEdition 3) l) (parsed (asEdition 3) l .segments)
   unfolding parsed
@@ -57,7 +55,7 @@ module _ (l : List ℕ) (lent : ℕ) (a : Acceptable (asEdition 3) l lent) where
   spell-sheet b =
       rw (listed-sheet (asEdition 3) l)
       (ap₂ (λ (x y : List ℕ). x ++ y) (pad-take 32 l (header-sized (asEdition 3) l (a .header) .long))
-      (ap (λ (x : Regrouped). segmentsBytes (x .segments)) (packet-regrouped (readingOf (asEdition 3) l) (parsed (asEdition 3) l .segments) newest sound (headerRecord l))
+      (ap (λ (x : Regrouped). segmentsBytes (x .segments)) (packet-regrouped (readingOf (asEdition 3) l) (parsed (asEdition 3) l .segments) (newest l) sound (headerRecord l))
       ∙ parse-back (readingOf (asEdition 3) l) (length (drop 32 l)) (drop 32 l) (le-refl _) (λ i. rw getD-drop (b (32 + i))) (a .ending))
       ∙ take-append-drop 32 l)
 
@@ -69,7 +67,7 @@ module _ (l : List ℕ) (lent : ℕ) (a : Acceptable (asEdition 3) l lent) where
   -- and are complete
   complete : Complete (headerRecord l ∷ packetRecords (readingOf (asEdition 3) l) (parsed (asEdition 3) l .segments))
   unfolding isComplete headerRecord recordOf calledFor
-  complete = packet-complete (readingOf (asEdition 3) l) (parsed (asEdition 3) l .segments) newest sound
+  complete = packet-complete (readingOf (asEdition 3) l) (parsed (asEdition 3) l .segments) (newest l) sound
 
   -- the packet reads back to its sheet
   back : readsBack l (sheet (asEdition 3) l) ≡ true
@@ -125,7 +123,7 @@ back-means l x e = go (readingAnswer (asEdition 3) l (length x)) refl e
     go (Accepted s d t n) h e = (accepted-only (asEdition 3) l (length x) s d t n h .0, same-lists (sheet (asEdition 3) l) x e)
     go (Refused number segment field) h e = absurd (true≢false (sym e))
 
--- ---- the four parts of the demand
+-- ---- the three parts of the demand
 
 -- the counts are the sheet's
 counted : (settings : Settings) (l lent : List ℕ) (s d t n : ℕ) → read settings l lent .answer ≡ Accepted s d t n → Counted (sheet settings l) s d t n
@@ -169,17 +167,22 @@ only-written x buffer s d t n b e =
           (ap (λ (y : List ℕ). x ++ y) (drop-of-length-le lent {i = length x} (omega arith)) ∙ append-nil x),
     )
 
+pub demand-2 : Demand2
+demand-2 = record { counts = counted; sheets-are-written = sheet-written; only-sheets-are-written = only-written }
+
+-- ---- "and returns that packet": so no two packets have the same Edition 3 sheet
+
 -- bytes laid over a buffer are its front
 pub over-front : (l buffer : List ℕ) → take (length l) (over l buffer) ≡ l
 unfolding over
 over-front l buffer = take-at l (drop (length l) buffer) (length l) refl
 
 -- packets with the same sheet are written into a buffer that has room for either, so they are the same packet
-one-packet : (l m lentl lentm : List ℕ) (s d t n s′ d′ t′ n′ : ℕ) → Bytes l → Bytes m
+pub one-packet-each : (l m lentl lentm : List ℕ) (s d t n s′ d′ t′ n′ : ℕ) → Bytes l → Bytes m
     → read (asEdition 3) l lentl .answer ≡ Accepted s d t n → read (asEdition 3) m lentm .answer ≡ Accepted s′ d′ t′ n′
     → take n (read (asEdition 3) l lentl .left) ≡ take n′ (read (asEdition 3) m lentm .left)
     → l ≡ m
-one-packet l m lentl lentm s d t n s′ d′ t′ n′ bl bm el em same =
+one-packet-each l m lentl lentm s d t n s′ d′ t′ n′ bl bm el em same =
     sym (over-front l buffer)
     ∙ ap₂ take (same-length _ _ _ _ s′ d′ t′ (length m) (ap (λ (o : Outcome). o .answer) both)) (ap (λ (o : Outcome). o .left) both)
     ∙ over-front m buffer
@@ -192,6 +195,3 @@ one-packet l m lentl lentm s d t n s′ d′ t′ n′ bl bm el em same =
         sym (sheet-written l lentl buffer s d t n bl el (rw length-append (omega arith)))
         ∙ ap (λ (x : List ℕ). write x buffer) same
         ∙ sheet-written m lentm buffer s′ d′ t′ n′ bm em (rw length-append (omega arith))
-
-pub demand-2 : Demand2
-demand-2 = record { counts = counted; sheets-are-written = sheet-written; only-sheets-are-written = only-written; one-packet-each = one-packet }

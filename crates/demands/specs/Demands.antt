@@ -4,23 +4,25 @@
 -- Assumes nothing.
 use Prim.Native.Nat.{ℕ, _≤_}
 use mathlib.Core.Path.{_≡_}
-use mathlib.Core.Bool.{cond}
+use mathlib.Core.Bool.{true, false, cond}
 use mathlib.Core.List.{List}
 use lib.ListN.{length, getD, take}
 use Rattle.octets.specs.Octets.{Bytes}
 use Rattle.octets.specs.Layout.{over}
-use Rattle.format.specs.Edition.{asEdition}
+use Rattle.format.specs.Edition.{asEdition, mark}
 use Rattle.format.specs.declared.Settings.{Settings}
 use Rattle.format.specs.declared.Check.the-variants.{Passed, Failed}
 use Rattle.format.specs.declared.Answer.the-variants.{Accepted, Refused}
-use Rattle.format.specs.Packet.{version}
+use Rattle.format.specs.Packet.{version, Segment}
 use Rattle.format.specs.Answer.{Outcome, outcome}
-use Rattle.format.specs.Rows.{firstRow}
-use Rattle.format.specs.New.{New, nothing, found, firstNew}
-use Rattle.format.specs.Reader.{parsed, sheet, read}
-use Rattle.format.specs.Writer.{listed, writerRows, spell, write}
+use Rattle.format.specs.Rows.{isNaming, firstRow}
+use Rattle.format.specs.declared.New.{New}
+use Rattle.format.specs.declared.New.the-variants.{Nothing, Found}
+use Rattle.format.specs.New.{firstNew}
+use Rattle.format.specs.Reader.{dwellsIn, targetsIn, readingOf, parsed, setOut, sheet, read}
+use Rattle.format.specs.Writer.{listed, isAccepted, writerRows, spell, writerAnswer, write}
 use Rattle.demands.specs.First.{FirstRow, NoRow}
-use Rattle.demands.specs.Filled.{withheldSheet, filledIn}
+use Rattle.demands.specs.Filled.{filledIn}
 use Rattle.demands.specs.Places.{isWithheldAt}
 use Rattle.demands.specs.Counts.{count, isKind, isLeader}
 
@@ -35,22 +37,33 @@ refused number segment field left = outcome (Refused number segment field) left
 -- ---- Demand 1. A packet "is either set out on a sheet, when no row of document 01 applies, or turned down with the number, segment
 -- and field of the first row that does. A packet turned down leaves the lent sheet as it was."
 pub data Reads (settings : Settings) (l lent : List ℕ) : Outcome → Type 0 where
-  set-out : {segments dwells targets : ℕ} → NoRow settings l (length lent) segments
-      → Reads settings l lent (accepted segments dwells targets (length (sheet settings l)) (over (sheet settings l) lent))
+  set-out : {ss : List Segment} → NoRow settings l (length lent) ss
+      → Reads settings l lent (accepted (length ss) (dwellsIn ss) (targetsIn ss) (length (setOut settings l ss)) (over (setOut settings l ss) lent))
   turned-down : {number segment field : ℕ} → FirstRow settings l (length lent) number segment field
       → Reads settings l lent (refused number segment field lent)
 
 -- "A sheet handed in for writing is treated likewise."
 pub data Writes (x lent : List ℕ) : Outcome → Type 0 where
-  set-out : {segments dwells targets : ℕ} → firstRow (writerRows x (length lent)) ≡ Passed
-      → Writes x lent (accepted segments dwells targets (length (spell x)) (over (spell x) lent))
+  set-out : firstRow (writerRows x (length lent)) ≡ Passed
+      → Writes x lent (outcome (writerAnswer x Passed) (over (spell x) lent))
   turned-down : {number field : ℕ} → firstRow (writerRows x (length lent)) ≡ Failed number field
       → Writes x lent (refused number 0 0 lent)
 
 -- "a run of bytes of any length and content, read as Edition 1 or as Edition 3", or as any other number. "Neither asks for a checked input."
+-- "either .. or": never both, and only one row is the first. So a packet is accepted exactly when no row applies to it.
 pub record Demand1 : Type 0 where
   pub reading : (settings : Settings) (l lent : List ℕ) → Reads settings l lent (read settings l lent)
   pub writing : (x lent : List ℕ) → Writes x lent (write x lent)
+  pub never-both : (settings : Settings) (l : List ℕ) (lent : ℕ) (ss : List Segment) (number segment field : ℕ)
+      → NoRow settings l lent ss → FirstRow settings l lent number segment field → ⊥
+  pub one-first-row : (settings : Settings) (l : List ℕ) (lent number segment field number′ segment′ field′ : ℕ)
+      → FirstRow settings l lent number segment field → FirstRow settings l lent number′ segment′ field′
+      → (number ≡ number′) × (segment ≡ segment′) × (field ≡ field′)
+  pub accepted-then-no-row : (settings : Settings) (l lent : List ℕ) → isAccepted (read settings l lent .answer) ≡ true
+      → (ss : List Segment) × NoRow settings l (length lent) ss
+  pub no-row-then-accepted : (settings : Settings) (l lent : List ℕ) (ss : List Segment) → NoRow settings l (length lent) ss
+      → read settings l lent
+      ≡ accepted (length ss) (dwellsIn ss) (targetsIn ss) (length (setOut settings l ss)) (over (setOut settings l ss) lent)
 
 -- ---- Demand 2. "The sheet is the one that the STANAG 4607 tables, as condensed in document 01, give for those bytes": that is the
 -- definition `sheet`, and the counts are the sheet's. "Given a packet buffer long enough, the writer accepts exactly the sheets that
@@ -61,8 +74,7 @@ pub record Counted (x : List ℕ) (segments dwells targets n : ℕ) : Type 0 whe
   pub targets-are : targets ≡ count (isKind 4) (listed x .records)
   pub length-is : n ≡ length x
 
--- demand 2 itself: the counts, "exactly" in both directions, and that the writer can return "that packet": hence no two packets have the
--- same Edition 3 sheet
+-- demand 2 itself: the counts, and "exactly" in both directions
 pub record Demand2 : Type 0 where
   pub counts : (settings : Settings) (l lent : List ℕ) (s d t n : ℕ) → read settings l lent .answer ≡ Accepted s d t n
       → Counted (sheet settings l) s d t n
@@ -72,10 +84,6 @@ pub record Demand2 : Type 0 where
   pub only-sheets-are-written : (x buffer : List ℕ) (s d t n : ℕ) → Bytes x → write x buffer .answer ≡ Accepted s d t n
       → (l : List ℕ) × Bytes l × (length l ≡ n) × (write x buffer .left ≡ over l buffer)
       × ((lent : List ℕ) → length lent ≡ length x → read (asEdition 3) l lent ≡ accepted s d t (length x) x)
-  pub one-packet-each : (l m lentl lentm : List ℕ) (s d t n s′ d′ t′ n′ : ℕ) → Bytes l → Bytes m
-      → read (asEdition 3) l lentl .answer ≡ Accepted s d t n → read (asEdition 3) m lentm .answer ≡ Accepted s′ d′ t′ n′
-      → take n (read (asEdition 3) l lentl .left) ≡ take n′ (read (asEdition 3) m lentm .left)
-      → l ≡ m
 
 -- ---- Demand 3
 
@@ -93,7 +101,6 @@ pub record BothRead (l lent1 lent3 : List ℕ) (s d t n : ℕ) : Type 0 where
 -- held, the writer accepts and returns the same packet with the same counts."
 pub record ReadAlike (l lent1 lent3 : List ℕ) (s d t n : ℕ) : Type 0 where
   pub same-answer : read (asEdition 1) l lent1 .answer ≡ Accepted s d t n
-  pub same-but : take n (read (asEdition 1) l lent1 .left) ≡ withheldSheet (take n (read (asEdition 3) l lent3 .left))
   pub every-byte : (i : ℕ)
       → getD (take n (read (asEdition 1) l lent1 .left)) i 0
       ≡ cond (isWithheldAt (listed (take n (read (asEdition 3) l lent3 .left)) .records) i) 0 (getD (take n (read (asEdition 3) l lent3 .left)) i 0)
@@ -103,10 +110,23 @@ pub record ReadAlike (l lent1 lent3 : List ℕ) (s d t n : ℕ) : Type 0 where
 -- "accepts exactly when the packet holds none of the four things"; "If the packet does hold something new, the Edition 1 reading
 -- refuses with 15 and names the first segment that holds any, and the field that document 01 gives for it."
 abbrev pub OlderReading : (l lent1 lent3 : List ℕ) (s d t n : ℕ) → New → Type 0
-OlderReading l lent1 lent3 s d t n nothing = ReadAlike l lent1 lent3 s d t n
-OlderReading l lent1 lent3 s d t n (found segment field) = read (asEdition 1) l lent1 ≡ refused 15 segment field lent1
+OlderReading l lent1 lent3 s d t n Nothing = ReadAlike l lent1 lent3 s d t n
+OlderReading l lent1 lent3 s d t n (Found segment field) = read (asEdition 1) l lent1 ≡ refused 15 segment field lent1
 
 -- demand 3, for every packet, both lent sheets and every buffer
 abbrev pub Demand3 : Type 0
 Demand3 = (l lent1 lent3 : List ℕ) (s d t n : ℕ) → BothRead l lent1 lent3 s d t n
     → OlderReading l lent1 lent3 s d t n (firstNew 1 (parsed (asEdition 3) l .segments))
+
+-- ---- Document 01: "Version 1 packets read alike under both readings, D27 and J26 shown", that is, marked with 1
+abbrev pub Version1 : Type 0
+Version1 = (l lent : List ℕ) → version l ≡ 1
+    → (read (asEdition 1) l lent ≡ read (asEdition 3) l lent) × (mark (readingOf (asEdition 1) l) ≡ 1)
+
+-- "The field is named in rows 5, 10, 11, 13, 14 and 15 (0 there for type 3) and is 0 in all others.": but for 15, a row that names a
+-- field names one that is not 0
+pub record FieldsNamed : Type 0 where
+  pub others : (settings : Settings) (l : List ℕ) (lent number segment field : ℕ) → FirstRow settings l lent number segment field
+      → isNaming number ≡ false → field ≡ 0
+  pub named : (settings : Settings) (l : List ℕ) (lent number segment : ℕ) → FirstRow settings l lent number segment 0
+      → isNaming number ≡ true → number ≡ 15

@@ -1,10 +1,10 @@
--- The two withheld fields on a sheet: where an Edition 1 and an Edition 3 sheet differ, and the one filled in from the other (demand 3).
+-- The two withheld fields on a sheet, filled in on an Edition 1 sheet from the Edition 3 sheet of the same packet (demand 3).
 -- Assumes nothing.
 use Prim.Native.Nat.{ℕ}
 use mathlib.Core.Bool.{cond}
 use mathlib.Core.List.{List, [], _∷_, _++_}
 use lib.Dec.{eqb}
-use Rattle.octets.specs.Layout.{replaced, zeroed, copied}
+use Rattle.octets.specs.Layout.{over, replaced, copied}
 use Rattle.mask.specs.Fields.{dwellWidths}
 use Rattle.format.specs.Packet.{jobWidths}
 use Rattle.format.specs.Sheet.{Record, recordBytes}
@@ -25,19 +25,6 @@ changed f r = record {
   body = cond (eqb (r .kind) 3) (f dwellBodyWidths 27 32 (r .body)) (cond (eqb (r .kind) 8) (f jobBodyWidths 26 29 (r .body)) (r .body));
 }
 
--- "those of fields D27 and J26 and their marks, which are zero"
-unfoldable pub withheldRecord : Record → Record
-withheldRecord r = changed (λ ws n mark b. zeroed 1 ws mark (zeroed 1 ws n b)) r
-
--- so each record of a list
-unfoldable pub withheldRecords : List Record → List Record
-withheldRecords [] = []
-withheldRecords (r ∷ rs) = withheldRecord r ∷ withheldRecords rs
-
--- a sheet with every D27, every J26 and their marks zero, and every other byte as it was
-unfoldable pub withheldSheet : List ℕ → List ℕ
-withheldSheet x = recordBytes (withheldRecords (listed x .records))
-
 -- "Copy into it every D27 and J26 of the Edition 3 sheet and mark them as shown": into r, of a record q of the same kind; another one
 -- gives nothing
 unfoldable pub filledRecord : Record → Record → Record
@@ -49,6 +36,7 @@ filledRecords [] qs = []
 filledRecords (r ∷ rs) [] = r ∷ rs
 filledRecords (r ∷ rs) (q ∷ qs) = filledRecord r q ∷ filledRecords rs qs
 
--- "the sheet so filled in": an Edition 1 sheet, of the Edition 3 sheet of the same packet
+-- "the sheet so filled in": an Edition 1 sheet, of the Edition 3 sheet of the same packet. Of other bytes, what stands behind the last
+-- whole record stays
 unfoldable pub filledIn : List ℕ → List ℕ → List ℕ
-filledIn x1 x3 = recordBytes (filledRecords (listed x1 .records) (listed x3 .records))
+filledIn x1 x3 = over (recordBytes (filledRecords (listed x1 .records) (listed x3 .records))) x1

@@ -9,10 +9,11 @@ use Rattle.octets.specs.Octets.{bytes}
 use Rattle.format.specs.Edition.{asEdition}
 use Rattle.format.specs.declared.Answer.the-variants.{Accepted}
 use Rattle.format.specs.Samples.{zeros, version3, dwell, d2to9, d24to27, mission, job, freeText, segment}
-use Rattle.format.specs.New.{nothing, found, firstNew}
+use Rattle.format.specs.declared.New.the-variants.{Nothing, Found}
+use Rattle.format.specs.New.{firstNew}
 use Rattle.format.specs.Reader.{parsed, sheet, read}
 use Rattle.format.specs.Writer.{listed}
-use Rattle.demands.specs.Filled.{withheldSheet, filledIn}
+use Rattle.demands.specs.Filled.{filledIn}
 use Rattle.demands.specs.Places.{isWithheldAt}
 use Rattle.demands.specs.Counts.{count, isKind, isLeader}
 
@@ -28,15 +29,14 @@ mixed = version3 (
 abbrev pub withheldOf : List ℕ → List Bool
 withheldOf is = map (isWithheldAt (listed (sheet (asEdition 3) mixed) .records)) is
 
--- both readings of it, its withheld and filled sheets (filled in from its sheet without the header, each record meets one of another
+-- both readings of it, its filled sheets (filled in from its sheet without the header, each record meets one of another
 -- kind), its counts; the places around D27 (151 and 152) and around its mark (160), around J26 (272) and its mark (275); and something
 -- new in a second segment
 unfoldable pub trials : List (Type 0)
 trials =
     (read (asEdition 3) mixed (zeros 400) .answer ≡ Accepted 4 1 1 369)
-    ∷ (firstNew 1 (parsed (asEdition 3) mixed .segments) ≡ nothing)
+    ∷ (firstNew 1 (parsed (asEdition 3) mixed .segments) ≡ Nothing)
     ∷ (read (asEdition 1) mixed (zeros 400) .answer ≡ Accepted 4 1 1 369)
-    ∷ (sheet (asEdition 1) mixed ≡ withheldSheet (sheet (asEdition 3) mixed))
     ∷ (filledIn (sheet (asEdition 1) mixed) (sheet (asEdition 3) mixed) ≡ sheet (asEdition 3) mixed)
     ∷ (filledIn (sheet (asEdition 1) mixed) (drop 33 (sheet (asEdition 3) mixed)) ≡ sheet (asEdition 1) mixed)
     ∷ (count isLeader (listed (sheet (asEdition 3) mixed) .records) ≡ 4)
@@ -44,5 +44,5 @@ trials =
     ∷ (count (isKind 4) (listed (sheet (asEdition 3) mixed) .records) ≡ 1)
     ∷ (withheldOf (150 ∷ 151 ∷ 152 ∷ 153 ∷ 159 ∷ 160 ∷ 161 ∷ []) ≡ false ∷ true ∷ true ∷ false ∷ false ∷ true ∷ false ∷ [])
     ∷ (withheldOf (271 ∷ 272 ∷ 273 ∷ 274 ∷ 275 ∷ 276 ∷ []) ≡ false ∷ true ∷ false ∷ false ∷ true ∷ false ∷ [])
-    ∷ (firstNew 1 (parsed (asEdition 3) (version3 (mission 1 1 ++ job 96 ++ segment 3 [])) .segments) ≡ found 2 14)
+    ∷ (firstNew 1 (parsed (asEdition 3) (version3 (mission 1 1 ++ job 96 ++ segment 3 [])) .segments) ≡ Found 2 14)
     ∷ []

@@ -12,13 +12,15 @@ use lib.Dec.{lit≤, lit<}
 use lib.Seq.{take-suc, drop-drop, getD-drop, getD-append-add, length-take-le}
 use Rattle.octets.specs.Octets.{be, twos, signed}
 use Rattle.octets.specs.Layout.{total, width, value, signedValue}
-use Rattle.mask.specs.Fields.{announced, taken, announcedLength, fullFields, dwellWidths, targetWidths, widths}
-use Rattle.mask.specs.Mask.{Required, isRequired}
+use Rattle.mask.specs.Fields.{announced, taken, announcedLength, fullFields, dwellWidths, targetWidths}
+use Rattle.mask.specs.InnerFields.{widths}
+use Rattle.mask.specs.Mask.{isRequired}
+use Rattle.mask.specs.InnerFields.{Required}
 use Rattle.mask.proofs.FullWidth.{announced-le, announced-append}
 use Rattle.mask.proofs.Places.{announcedBefore, field-within, value-full, value-there}
 use Rattle.octets.proofs.Laws.{one-byte}
 use Rattle.format.specs.Dwell.{D, maskOf, dwellFields, targetFields, targetLength}
-use Rattle.dwell_checks.specs.Plan.{numberIf}
+use Rattle.dwell_checks.specs.InnerPlan.{numberIf}
 
 -- ---- a number at its place
 

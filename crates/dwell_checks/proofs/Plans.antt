@@ -11,7 +11,7 @@ use lib.ListN.{length, drop, length-drop}
 use borrow.Rule.Slice.PartMut.{midOf}
 use Rattle.octets.proofs.Parts.{tail-is}
 use Rattle.mask.specs.Fields.{announcedLength, dwellWidths, dwellSize}
-use Rattle.mask.specs.Mask.{Required}
+use Rattle.mask.specs.InnerFields.{Required}
 use Rattle.format.specs.declared.Area.{Area}
 use Rattle.format.specs.declared.Check.the-variants.{Passed}
 use Rattle.format.specs.Packet.{s2}
@@ -19,7 +19,7 @@ use Rattle.format.specs.Dwell.{maskOf, dwellFields, targetCount, targetLength, 
 use Rattle.format.specs.Rows.{firstRow, targetsRows}
 use Rattle.format.proofs.Dwells.{IsDwell}
 use Rattle.dwell_checks.specs.declared.Plan.{Plan}
-use Rattle.dwell_checks.specs.Plan.{Headed, Bounded, Holds, planOf}
+use Rattle.dwell_checks.specs.InnerPlan.{Headed, Bounded, Holds, planOf}
 use Rattle.dwell_checks.proofs.Numbers.{required-length}
 
 -- a plan by its parts

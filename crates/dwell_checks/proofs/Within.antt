@@ -20,14 +20,14 @@ use Rattle.mask.proofs.Bit.{set-and, set-none}
 use Rattle.mask.proofs.FullWidth.{full-bytes}
 use Rattle.mask.proofs.Places.{value-absent, signed-absent}
 use Rattle.position.specs.Position.{isLatitude}
-use Rattle.position.specs.Always.{isAlwaysLatitude}
+use Rattle.position.specs.InnerAlways.{isAlwaysLatitude}
 use Rattle.position.proofs.Range.{always-latitude}
 use Rattle.format.specs.declared.Area.{Area}
 use Rattle.format.specs.declared.Check.{Check}
 use Rattle.format.specs.declared.Check.the-variants.{Passed}
 use Rattle.format.specs.Dwell.{targetFields, latitude, D32±}
 use Rattle.format.specs.Rows.{firstRow, targetRows, targetsRows}
-use Rattle.dwell_checks.specs.Plan.{isInside}
+use Rattle.dwell_checks.specs.InnerPlan.{isInside}
 use Rattle.format.proofs.Rows.{orElse, first-append}
 use Rattle.dwell_checks.proofs.Positions.{rows-are, latitude-there, latitude-summed}
 

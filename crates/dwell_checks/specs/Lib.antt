@@ -1,1 +1,1 @@
-pub mod Plan
+pub mod InnerPlan

@@ -4,13 +4,13 @@ ghost use mathlib.Core.Bool.{true, not, _&&_};
 ghost use Prim.Native.Nat.{_+_, _-_, _*_, _≤_, _<_};
 ghost use lib.ListN.{length, drop};
 ghost use Rattle.octets.specs.Octets.{twos};
-ghost use Rattle.mask.specs.Fields.{announced, taken, announcedLength, dwellWidths, widths};
-ghost use Rattle.mask.specs.Mask.{Required};
+ghost use Rattle.mask.specs.Fields.{announced, taken, announcedLength, dwellWidths};
+ghost use Rattle.mask.specs.InnerFields.{widths, Required};
 ghost use Rattle.position.specs.Position.{isLatitude};
 ghost use Rattle.format.specs.declared.Reading.{Reading};
 ghost use Rattle.format.specs.Dwell.{maskOf, dwellFields, targetCount, targetLength, targetFields, areaOf, latitude, longitude};
 ghost use Rattle.format.specs.Rows.{firstRow, targetRows, targetsRows, dwellRows};
-ghost use Rattle.dwell_checks.specs.Plan.{Headed, Bounded, Holds, planOf, isInside, numberIf};
+ghost use Rattle.dwell_checks.specs.InnerPlan.{Headed, Bounded, Holds, planOf, isInside, numberIf};
 use format::Check;
 
 // What a walk over a dwell needs of it: the mask, where the targets start in the body, the bytes of each, how many they are, and what their
@@ -136,6 +136,7 @@ fn plan_by(b: &[u8], mask: u64, start: usize, each: usize, count: usize) -> Plan
     }
 }
 
+// The mask is handed in: where a function tests bits of a number that it reads, the compiler reads it byte by byte.
 pub fn plan_of(b: &[u8], mask: u64) -> Plan
     requires { ⌜ Headed mask (now b) ⌝ }
     ensures { λ p. ⌜ (p ≡ planOf (now (b .entry))) × Bounded (p .area) ⌝ }

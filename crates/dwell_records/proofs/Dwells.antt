@@ -13,11 +13,12 @@ use Rattle.mask.specs.Fields.{fullFields, dwellWidths}
 use Rattle.format.specs.declared.Reading.{Reading}
 use Rattle.format.specs.Dwell.{maskOf, dwellFields, targetCount, targetsOf, areaOf}
 use Rattle.format.specs.Edition.{isOlder, shown, mark}
-use Rattle.format.specs.Sheet.{bodyLength, recordLength, dwellRecord, targetRecords, dwellRecords, recordBytes}
+use Rattle.format.specs.Sheet.{bodyLength, dwellRecord, targetRecords, dwellRecords, recordBytes}
+use Rattle.format.specs.Lengths.{recordLength}
 use Rattle.dwell_checks.specs.declared.Plan.{Plan}
-use Rattle.dwell_checks.specs.Plan.{planOf}
+use Rattle.dwell_checks.specs.InnerPlan.{planOf}
 use Rattle.format.proofs.Bodies.{length-dwell}
-use Rattle.records.proofs.Stores.{sets-within}
+use Rattle.copies.proofs.Stores.{sets-within}
 use Rattle.format.proofs.Lengths.{length-one}
 use Rattle.records.proofs.Laid.{record-laid, records-then, full-body}
 

@@ -21,7 +21,8 @@ use Rattle.position.specs.Position.{isLatitude, latitudeMicro, longitudeMicro}
 use Rattle.format.specs.declared.Area.{Area}
 use Rattle.format.specs.declared.Check.the-variants.{Passed}
 use Rattle.format.specs.Dwell.{targetFields, targetLength, latitude, longitude}
-use Rattle.format.specs.Sheet.{bodyLength, recordLength, targetRecord, targetRecords, recordBytes}
+use Rattle.format.specs.Sheet.{bodyLength, targetRecord, targetRecords, recordBytes}
+use Rattle.format.specs.Lengths.{recordLength}
 use Rattle.format.specs.Rows.{Row, firstRow, targetRows, targetsRows}
 use Rattle.format.proofs.Rows.{first-passes, both-pass}
 use Rattle.format.proofs.Lengths.{length-one}

@@ -10,9 +10,10 @@ ghost use Rattle.position.specs.Position.{isLatitude};
 ghost use Rattle.format.specs.declared.Check.the-variants.{Passed};
 ghost use Rattle.format.specs.Dwell.{targetCount, targetLength, targetFields, latitude};
 ghost use Rattle.format.specs.Edition.{isOlder};
-ghost use Rattle.format.specs.Sheet.{recordLength, dwellRecord, targetRecord, targetRecords, dwellRecords, recordBytes};
+ghost use Rattle.format.specs.Sheet.{dwellRecord, targetRecord, targetRecords, dwellRecords, recordBytes};
+ghost use Rattle.format.specs.Lengths.{recordLength};
 ghost use Rattle.format.specs.Rows.{firstRow, targetsRows, dwellRows};
-ghost use Rattle.dwell_checks.specs.Plan.{Headed, Bounded, Holds};
+ghost use Rattle.dwell_checks.specs.InnerPlan.{Headed, Bounded, Holds};
 
 // Places in whole records, which begin with their kind.
 const D27: usize = 1 + format::DwellRecord::D27;

@@ -2,39 +2,20 @@
 -- Assumes nothing.
 use Prim.Native.Nat.{ℕ, zero, suc, _+_, _-_, _<_}
 use native.Mathlib.Omega.{arith}
-use native.Mathlib.Nat.{add-zero}
 use native.Mathlib.Numerals.{add-one}
 use mathlib.Core.Path.{_≡_, refl, sym, ap, ap₂, _∙_}
 use mathlib.Core.Bool.{Bool, true, false, cond, _&&_}
 use mathlib.Core.List.{List, [], _∷_, _++_, append-assoc}
-use mathlib.Core.Logic.{inl, inr}
 use borrow.Author.Tests.{leb-true}
 use borrow.Rule.Slice.PartMut.{putMid, same-len-mid, post-is, mid-len}
 use lib.Dec.{ltb, leb, eqb}
-use lib.ListN.{length, getD, take, drop, length-append, take-append-drop}
-use lib.Seq.{length-take-le, take-suc, take-at, drop-at, drop-drop, getD-drop}
-use types.Run.{OneOf}
-use denote.Enum.Declared.{tagOf}
+use lib.ListN.{length, take, drop, length-append, take-append-drop}
+use lib.Seq.{length-take-le, take-suc, take-at, drop-at, drop-drop}
 use Rattle.octets.specs.Layout.{over}
 use Rattle.format.specs.Sheet.{Record, bodyLength, recordBytes}
 use Rattle.format.specs.Writer.{Listed, list, listed}
-use Rattle.sheet_walk.specs.declared.Place.{Place}
-use Rattle.sheet_walk.proofs.Place.{the-type}
-use Rattle.sheet_walk.specs.declared.Place.the-variants.{Whole, End, Cut}
-use Rattle.sheet_walk.specs.Shape.{placeAt}
-use Rattle.sheet_walk.proofs.Places.{WholeAt, cutAt, at-place}
+use Rattle.sheet_walk.proofs.Places.{WholeAt, cutAt}
 use Rattle.demands.specs.Filled.{filledRecord, filledRecords, filledIn}
-
--- where code was told that there is no whole record, there is none
-pub none-at : (x : List ℕ) (at : ℕ) (p : Place) → p ≡ placeAt x at → OneOf (1 ∷ 2 ∷ []) (tagOf the-type p) → listed (drop at x) .records ≡ []
-none-at x at (Whole kind end) e (inl told) = absurd (omega arith)
-none-at x at (Whole kind end) e (inr told) = absurd (omega arith)
-none-at x at End e told = ap (λ (l : Listed). l .records) (at-place x at e refl)
-none-at x at Cut e told = ap (λ (l : Listed). l .records) (at-place x at e refl)
-
--- x filled in from y, and what is behind the last whole record of x as it was
-abbrev pub filledOver : List ℕ → List ℕ → List ℕ
-filledOver x y = over (filledIn x y) x
 
 -- bytes laid over others, one run after another
 over-append : (a e o : List ℕ) → over (a ++ e) o ≡ a ++ over e (drop (length a) o)
@@ -63,13 +44,13 @@ over-own (suc k) (kind ∷ x) = go (ltb 0 n) (leb n (length x)) refl (over-own k
     go false t f i = refl
 
 -- where either has no record any more, x is as it was
-pub over-end : (x y : List ℕ) → listed x .records ≡ [] → filledOver x y ≡ x
+pub filled-end : (x y : List ℕ) → listed x .records ≡ [] → filledIn x y ≡ x
 unfolding over filledIn filledRecords recordBytes
-over-end x y e = ap (λ (rs : List Record). over (recordBytes (filledRecords rs (listed y .records))) x) e
+filled-end x y e = ap (λ (rs : List Record). over (recordBytes (filledRecords rs (listed y .records))) x) e
 
-pub over-none : (x y : List ℕ) → listed y .records ≡ [] → filledOver x y ≡ x
+pub given-end : (x y : List ℕ) → listed y .records ≡ [] → filledIn x y ≡ x
 unfolding filledIn filledRecords
-over-none x y e = ap (λ (rs : List Record). over (recordBytes (filledRecords (listed x .records) rs)) x) e ∙ ap (λ (rs : List Record). over (recordBytes rs) x) (go (listed x .records)) ∙ over-own (length x) x
+given-end x y e = ap (λ (rs : List Record). over (recordBytes (filledRecords (listed x .records) rs)) x) e ∙ ap (λ (rs : List Record). over (recordBytes rs) x) (go (listed x .records)) ∙ over-own (length x) x
   where
     go : (rs : List Record) → filledRecords rs [] ≡ rs
     go [] = refl
@@ -78,10 +59,10 @@ over-none x y e = ap (λ (rs : List Record). over (recordBytes (filledRecords (l
 -- how far a walk is: x₀ and y are as they were handed in, x is the older sheet now, filled in up to a place
 pub record Filled (x₀ y x : List ℕ) (at from : ℕ) : Type 0 where
   pub same : length x ≡ length x₀
-  pub rest : take at x ++ filledOver (drop at x) (drop from y) ≡ filledOver x₀ y
+  pub rest : take at x ++ filledIn (drop at x) (drop from y) ≡ filledIn x₀ y
 
 -- where nothing more is filled in
-pub left-as-is : {x₀ y x : List ℕ} {at from : ℕ} → Filled x₀ y x at from → filledOver (drop at x) (drop from y) ≡ drop at x → x ≡ filledOver x₀ y
+pub left-as-is : {x₀ y x : List ℕ} {at from : ℕ} → Filled x₀ y x at from → filledIn (drop at x) (drop from y) ≡ drop at x → x ≡ filledIn x₀ y
 left-as-is {x = x} {at = at} i e = sym (take-append-drop at x) ∙ sym (ap (λ (z : List ℕ). take at x ++ z) e) ∙ i .rest
 
 -- a record keeps its kind
@@ -96,31 +77,23 @@ filled-kind r q = go (eqb (r .kind) (q .kind)) _
 -- a turn: at a place of x and at one of y there is a whole record; the body of that of x is lent, and comes back as p
 module _ {x y p : List ℕ} {at kind next from other end : ℕ} (wx : WholeAt x at kind next) (wy : WholeAt y from other end)
     (e : p ≡ filledRecord (cutAt x at kind next) (cutAt y from other end) .body) (l : length p ≡ length (cutAt x at kind next .body)) where
-  -- the kind is the byte at the place
-  kind-is : kind ≡ getD x at 0
-  unfolding over recordBytes
-  kind-is =
-      ap (λ (l : Listed). getD (over (recordBytes (l .records)) (drop at x)) 0 0) (sym (wx .listed-is))
-      ∙ ap (λ (l : List ℕ). getD l 0 0) (over-own _ (drop at x))
-      ∙ getD-drop at x 0 0
-      ∙ rw add-zero
-
-  -- and the record ends where the next begins
+  -- the record ends where the next begins
   end-is : at + suc (length p) ≡ next
   end-is = omega (arith, wx .within, mid-len (at + 1) next x (wx .fits))
 
   -- what is filled in from the places on: the record, and the rest
-  rest-is : filledOver (drop at x) (drop from y) ≡ (kind ∷ p) ++ filledOver (drop next x) (drop end y)
+  rest-is : filledIn (drop at x) (drop from y) ≡ (kind ∷ p) ++ filledIn (drop next x) (drop end y)
   unfolding filledIn filledRecords recordBytes
   rest-is =
+      let rest = filledRecords (listed (drop next x) .records) (listed (drop end y) .records) in
       ap₂ (λ (u v : Listed). over (recordBytes (filledRecords (u .records) (v .records))) (drop at x)) (wx .listed-is) (wy .listed-is)
-      ∙ rw (filled-kind, ← e) (over-append (kind ∷ p) (filledIn (drop next x) (drop end y)) (drop at x) ∙ rw (drop-drop, end-is))
+      ∙ rw (filled-kind, ← e) (over-append (kind ∷ p) (recordBytes rest) (drop at x) ∙ rw (drop-drop, end-is))
 
   -- the sheet as it comes back: up to the place behind the record, and behind it
   back-is : putMid (at + 1) (next - (at + 1)) x p ≡ (take at x ++ (kind ∷ p)) ++ drop next x
   back-is =
       let h : at < length x = omega (arith, wx .within, wx .fits) in
-      rw (post-is (at + 1) next x (omega (arith, wx .within)), add-one, take-suc x at 0 h, ← kind-is) (simp append-assoc)
+      rw (post-is (at + 1) next x (omega (arith, wx .within)), add-one, take-suc x at 0 h, ← wx .kind-is) (simp append-assoc)
 
   -- so what is filled in from the next places on, behind it, is what was to be filled in before
   pub turn : {x₀ : List ℕ} → Filled x₀ y x at from → Filled x₀ y (putMid (at + 1) (next - (at + 1)) x p) next end

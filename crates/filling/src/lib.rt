@@ -1,7 +1,6 @@
 // D27 and J26 of the Edition 3 sheet, filled in on the Edition 1 sheet of the same packet.
 ghost use mathlib.Core.Path.{_≡_};
 ghost use lib.ListN.{length};
-ghost use Rattle.octets.specs.Layout.{over};
 ghost use Rattle.format.specs.Sheet.{bodyLength};
 ghost use Rattle.demands.specs.Filled.{filledRecord, filledIn};
 use format::DwellRecord;
@@ -40,7 +39,7 @@ fn fill_pair(kind: u8, older: &mut [u8], other: u8, newer: &[u8])
 
 // Both sheets, record by record, each with its own place, until one of them has no whole record any more. Any bytes may be handed in.
 pub fn fill_in(older: &mut [u8], newer: &[u8])
-    ensures { λ _. ⌜ now (older .exit) ≡ over (filledIn (now (older .entry)) (now (newer .entry))) (now (older .entry)) ⌝ }
+    ensures { λ _. ⌜ now (older .exit) ≡ filledIn (now (older .entry)) (now (newer .entry)) ⌝ }
 {
     let mut at = 0;
     let mut from = 0;

@@ -8,14 +8,14 @@ use lib.ListN.{length, getD, take, drop, length-drop}
 use lib.Seq.{drop-drop}
 use Rattle.format.specs.declared.Reading.{Reading}
 use Rattle.format.specs.declared.Check.the-variants.{Passed}
-use Rattle.format.specs.Packet.{typeAt, sizeAt, bodyAt}
+use Rattle.format.specs.Packet.{typeAt, sizeAt, bodyAt, segmentAt}
 use Rattle.format.specs.Sheet.{segmentRecords, packetRecords, recordBytes}
 use Rattle.format.specs.Rows.{firstRow, bodyRows, segmentRows}
 use Rattle.format.specs.Reader.{Parsed, parse}
 use Rattle.format.proofs.Rows.{segment-passes}
 use Rattle.format.proofs.Segments.{length-body, body-part}
 use Rattle.format.proofs.Lengths.{bytes-append}
-use Rattle.format.proofs.Turns.{segmentAt, behind, parse-good, parse-passes, parse-end}
+use Rattle.format.proofs.Turns.{behind, parse-good, parse-passes, parse-end}
 
 -- the bytes of the records that are left
 abbrev pub leftOver : Reading → ℕ → List ℕ → List ℕ

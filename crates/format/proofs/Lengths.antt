@@ -12,7 +12,8 @@ use Rattle.format.specs.declared.Settings.{Settings}
 use Rattle.format.specs.declared.Reading.{Reading}
 use Rattle.format.specs.declared.Area.{Area}
 use Rattle.format.specs.Dwell.{maskOf, dwellFields, targetCount, targetsOf, targetLength, areaOf}
-use Rattle.format.specs.Sheet.{Record, bodyLength, recordLength, recordOf, headerRecord, dwellRecord, targetRecord, targetRecords, pieceRecord, pieceRecords, pieceCount, dwellRecords, textRecords, opaqueRecords, jobRecords, segmentRecords, packetRecords, recordBytes}
+use Rattle.format.specs.Sheet.{Record, bodyLength, recordOf, headerRecord, dwellRecord, targetRecord, targetRecords, pieceRecord, pieceRecords, pieceCount, dwellRecords, textRecords, opaqueRecords, jobRecords, segmentRecords, packetRecords, recordBytes}
+use Rattle.format.specs.Lengths.{recordLength}
 use Rattle.format.specs.Reader.{parsed, readingOf, sheet}
 use Rattle.format.proofs.Types.{by-number}
 

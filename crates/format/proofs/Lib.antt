@@ -1,5 +1,6 @@
 pub mod Types
 pub mod Rows
+pub mod Named
 pub mod Records
 pub mod Listing
 pub mod Followers

@@ -18,7 +18,8 @@ use Rattle.format.specs.declared.Check.{Check}
 use Rattle.format.specs.declared.Check.the-variants.{Passed, Failed}
 use Rattle.format.specs.Packet.{Segment, typeAt, sizeAt, bodyAt}
 use Rattle.format.specs.Dwell.{maskOf, targetCount, targetLength}
-use Rattle.format.specs.Sheet.{bodyLength, recordLength, longestSheet, headerRecord, pieceCount, segmentRecords, packetRecords, recordBytes}
+use Rattle.format.specs.Sheet.{bodyLength, headerRecord, pieceCount, segmentRecords, packetRecords, recordBytes}
+use Rattle.format.specs.Lengths.{recordLength, longestSheet}
 use Rattle.format.specs.Rows.{firstRow, dwellRows, bodyRows, segmentRows}
 use Rattle.format.specs.Reader.{Parsed, onward, parse, readingOf, parsed, sheet}
 use Rattle.format.proofs.Types.{by-number}

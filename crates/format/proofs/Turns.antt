@@ -8,14 +8,10 @@ use lib.ListN.{length, drop}
 use Rattle.format.specs.declared.Reading.{Reading}
 use Rattle.format.specs.declared.Check.{Check}
 use Rattle.format.specs.declared.Check.the-variants.{Passed, Failed}
-use Rattle.format.specs.Packet.{Segment, typeAt, sizeAt, bodyAt}
+use Rattle.format.specs.Packet.{sizeAt, segmentAt}
 use Rattle.format.specs.Rows.{firstRow, segmentRows}
 use Rattle.format.specs.Reader.{Parsed, onward, parse}
 use Rattle.format.proofs.Rows.{passed-not-failed}
-
--- the segment at the front of l
-abbrev pub segmentAt : List ℕ → Segment
-segmentAt l = record { type = typeAt l; body = bodyAt l }
 
 -- where bytes are left, the first row that applies to the segment at their front decides
 turn : (r : Reading) (k : ℕ) (l : List ℕ) → 0 < length l → 0 < k → parse r k l ≡ onward (firstRow (segmentRows r l)) (segmentAt l) (parse r (k - 1) (drop (sizeAt l) l))

@@ -2,6 +2,7 @@ pub mod Packet
 pub mod Dwell
 pub mod Edition
 pub mod Sheet
+pub mod Lengths
 pub mod Answer
 pub mod Rows
 pub mod New

@@ -6,6 +6,8 @@ use mathlib.Core.List.{List, [], _∷_}
 use lib.Dec.{eqb}
 use Rattle.mask.specs.Mask.{newInMask}
 use Rattle.format.specs.declared.Check.the-variants.{Passed, Failed}
+use Rattle.format.specs.declared.New.{New}
+use Rattle.format.specs.declared.New.the-variants.{Nothing, Found}
 use Rattle.format.specs.Packet.{Segment, J}
 use Rattle.format.specs.Dwell.{maskOf}
 use Rattle.format.specs.Edition.{isNewMode}
@@ -20,12 +22,7 @@ newRows s =
     ∷ row 15 14 (eqb (s .type) 5 && isNewMode (J 14 (s .body)))
     ∷ []
 
--- the first segment that holds any, from the one with number n on, and the field that is named for it
-pub data New : Type 0 where
-  nothing : New
-  found : ℕ → ℕ → New
-
--- demand 3: "names the first segment that holds any, and the field that document 01 gives for it"
+-- demand 3: "names the first segment that holds any, and the field that document 01 gives for it". The segments are numbered from n on
 unfoldable pub firstNew : ℕ → List Segment → New
-firstNew n [] = nothing
-firstNew n (s ∷ ss) = elim (firstRow (newRows s)) [ Passed ↦ firstNew (suc n) ss | Failed number field ↦ found n field ]
+firstNew n [] = Nothing
+firstNew n (s ∷ ss) = elim (firstRow (newRows s)) [ Passed ↦ firstNew (suc n) ss | Failed number field ↦ Found n field ]

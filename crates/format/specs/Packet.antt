@@ -49,6 +49,10 @@ pub record Segment : Type 0 where
   pub type : ℕ
   pub body : List ℕ
 
+-- the one at the front of l
+abbrev pub segmentAt : List ℕ → Segment
+segmentAt l = record { type = typeAt l; body = bodyAt l }
+
 -- the size S2 of a segment with this body
 abbrev pub s2 : List ℕ → ℕ
 s2 body = 5 + length body

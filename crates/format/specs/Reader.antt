@@ -11,7 +11,7 @@ use Rattle.format.specs.declared.Check.{Check}
 use Rattle.format.specs.declared.Check.the-variants.{Passed, Failed}
 use Rattle.format.specs.declared.Answer.{Answer}
 use Rattle.format.specs.declared.Answer.the-variants.{Accepted, Refused}
-use Rattle.format.specs.Packet.{version, Segment, typeAt, sizeAt, bodyAt}
+use Rattle.format.specs.Packet.{version, Segment, sizeAt, segmentAt}
 use Rattle.format.specs.Dwell.{targetCount}
 use Rattle.format.specs.Sheet.{headerRecord, packetRecords, recordBytes}
 use Rattle.format.specs.Answer.{Outcome, outcome, leftBy}
@@ -33,7 +33,7 @@ parse r zero l = record { segments = []; ending = Passed }
 parse r (suc k) [] = record { segments = []; ending = Passed }
 parse r (suc k) (x ∷ xs) =
     let l : List ℕ = x ∷ xs in
-    onward (firstRow (segmentRows r l)) (record { type = typeAt l; body = bodyAt l }) (parse r k (drop (sizeAt l) l))
+    onward (firstRow (segmentRows r l)) (segmentAt l) (parse r k (drop (sizeAt l) l))
 
 -- "dwells (type 2 segments)"
 unfoldable pub dwellsIn : List Segment → ℕ
@@ -53,9 +53,13 @@ readingOf settings l = record { settings = settings; version = version l }
 unfoldable pub parsed : Settings → List ℕ → Parsed
 parsed settings l = parse (readingOf settings l) (length (drop 32 l)) (drop 32 l)
 
--- its sheet: the header's record, and those of its segments
+-- the packet l set out, where these are its segments: the header's record, and those of the segments
+abbrev pub setOut : Settings → List ℕ → List Segment → List ℕ
+setOut settings l ss = recordBytes (headerRecord l ∷ packetRecords (readingOf settings l) ss)
+
+-- its sheet
 unfoldable pub sheet : Settings → List ℕ → List ℕ
-sheet settings l = recordBytes (headerRecord l ∷ packetRecords (readingOf settings l) (parsed settings l .segments))
+sheet settings l = setOut settings l (parsed settings l .segments)
 
 -- the answer after the header, where the sheet has so many bytes and so many are lent. "16 sheet too short" comes at the end
 abbrev pub segmentsAnswer : Parsed → ℕ → ℕ → Answer
@@ -72,6 +76,10 @@ readingAnswer settings l lent =
       | Passed ↦ segmentsAnswer (parsed settings l) (length (sheet settings l)) lent
       | Failed number field ↦ Refused number 0 field
     ]
+
+-- the packet by itself, with no sheet lent: rows 1 to 15, and nothing is left
+unfoldable pub check : Settings → List ℕ → Outcome
+check settings l = outcome (readingAnswer settings l (length (sheet settings l))) []
 
 -- the answer, and what the lent sheet then holds
 unfoldable pub read : Settings → List ℕ → List ℕ → Outcome

@@ -36,6 +36,10 @@ row number field applies = record { number = number; field = field; applies = ap
 abbrev pub naming : ℕ → ℕ → Row
 naming number field = row number field (not (eqb field 0))
 
+-- "The field is named in rows 5, 10, 11, 13, 14 and 15 .. and is 0 in all others."
+abbrev pub isNaming : ℕ → Bool
+isNaming number = eqb number 5 || eqb number 10 || eqb number 11 || between 13 15 number
+
 -- "first fault wins"
 unfoldable pub firstRow : List Row → Check
 firstRow [] = Passed

@@ -1,6 +1,6 @@
 -- The sheet: the document's term for the records that a packet is set out as (document 01, 'The sheet').
 -- Assumes nothing.
-use Prim.Native.Nat.{ℕ, zero, suc, _+_, _-_, _*_, _/_, min}
+use Prim.Native.Nat.{ℕ, zero, suc, _+_, _-_, _/_, min}
 use mathlib.Core.Bool.{cond}
 use mathlib.Core.List.{List, [], _∷_, _++_}
 use lib.Dec.{eqb}
@@ -28,15 +28,6 @@ bodyLengths = 0 ∷ 32 ∷ 39 ∷ 87 ∷ 44 ∷ 24 ∷ 33 ∷ 5 ∷ 69 ∷ 14 �
 -- "a body whose length the kind fixes"
 unfoldable pub bodyLength : ℕ → ℕ
 bodyLength kind = getD bodyLengths kind 0
-
--- the bytes of a whole record of the kind
-abbrev pub recordLength : ℕ → ℕ
-recordLength kind = 1 + getD bodyLengths kind 0
-
--- the most bytes that a sheet has: the header's record and, for each 4 bytes behind the header of the longest packet, a target's record,
--- since nothing grows more. "A packet has 32 to 65,536 bytes."
-abbrev pub longestSheet : ℕ
-longestSheet = recordLength 1 + (65536 - 32) * recordLength 4 / 4
 
 -- a record of the kind, with zeros where b does not fill the body
 unfoldable pub recordOf : ℕ → List ℕ → Record

@@ -192,9 +192,13 @@ writerAnswer x Passed =
     Accepted (length segments) (dwellsIn segments) (targetsIn segments) (length (spell x))
 writerAnswer x (Failed number field) = Refused number 0 0
 
--- of a sheet by itself, with no packet buffer: rows 17 to 19
+-- the answer to a sheet by itself, with no packet buffer: rows 17 to 19
 unfoldable pub sheetAnswer : List ℕ → Answer
 sheetAnswer x = writerAnswer x (firstRow (sheetRows x))
+
+-- and nothing is left
+unfoldable pub check : List ℕ → Outcome
+check x = outcome (sheetAnswer x) []
 
 -- with so many bytes of packet buffer lent: rows 17 to 20
 unfoldable pub writingAnswer : List ℕ → ℕ → Answer

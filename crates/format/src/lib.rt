@@ -36,6 +36,13 @@ pub enum Answer {
     Refused(usize, usize, usize),
 }
 
+// The first thing in a packet that is new in Edition 3.
+pub enum New {
+    Nothing,
+    // The number of the segment that holds it, and the field that document 01 names for it.
+    Found(usize, usize),
+}
+
 // The longest packet that row 2 lets pass.
 pub const LONGEST_PACKET: usize = 65536;
 
@@ -107,6 +114,9 @@ impl TextRecord {
 
     // The length of F3, behind F1 and F2.
     pub const F3_LENGTH: usize = 20;
+
+    // Where F3 begins in the segment's body, behind F1 and F2.
+    pub const F3: usize = TextRecord::F3_LENGTH;
 }
 
 pub struct PieceRecord {}
@@ -146,6 +156,8 @@ impl JobRecord {
     pub const LEN: usize = 69;
 
     pub const WHOLE: usize = 1 + JobRecord::LEN;
+
+    pub const J14: usize = 45;
 
     pub const J26: usize = 65;
 

@@ -2,31 +2,42 @@
 // or `new` with the answer of the Edition 1 reading, or by the refusal of the Edition 3 reading, or by `broken`; or by what is wrong with
 // the line.
 ghost use mathlib.Core.Path.{_≡_};
-ghost use mathlib.Core.Bool.{cond};
-ghost use mathlib.Core.List.{[], _∷_, _++_};
-ghost use Prim.Native.Nat.{_+_, _/_, _≤_};
-ghost use lib.Dec.{eqb};
+ghost use mathlib.Core.Bool.{_&&_, cond};
+ghost use mathlib.Core.List.{List, [], _∷_, _++_};
+ghost use Prim.Native.Nat.{ℕ, _+_, _/_, _≤_};
+ghost use lib.Dec.{eqb, leb, ltb};
 ghost use lib.ListN.{length};
 ghost use lib.Seq.{sets};
 ghost use Rattle.lines.specs.Lines.{before, NextWithin};
 ghost use Rattle.format.specs.Edition.{asEdition};
 ghost use Rattle.format.specs.Packet.{version};
 ghost use Rattle.format.specs.Answer.{outcome};
-ghost use Rattle.format.specs.Reader.{read};
-ghost use Rattle.gmti_editions.specs.declared.Verdict.the-variants.{New, Broken};
-ghost use Rattle.gmti_editions.specs.Verdict.{isReturned, isAlike, olderVerdict, verdict as verdictOf};
+ghost use Rattle.format.specs.Rows.{firstRow};
+ghost use Rattle.format.specs.New.{newRows, firstNew};
+ghost use Rattle.format.specs.Reader.{parsed, read};
+ghost use Rattle.format.specs.Writer.{isSame};
+ghost use Rattle.segments.specs.InnerWalk.{CheckedPacket};
+ghost use Rattle.demands.specs.Places.{isWithheldIn};
+ghost use Rattle.demands.specs.Demands.{BothRead};
+ghost use Rattle.gmti_editions.specs.declared.Verdict.the-variants.{Alike};
+ghost use Rattle.gmti_editions.specs.Verdict.{zeroWhere, isWithheldSheet, isOlderSheet, filledFor, isReturned, isAlike, alikeVerdict, newVerdict, olderVerdict, newIn, verdict as verdictOf, Version1Read, Demanded};
 ghost use Rattle.vectors.specs.declared.Fault.the-variants.{Nothing};
 ghost use Rattle.vectors.specs.Vectors.{hexFault, unhexed};
 ghost use Rattle.gmti_editions.specs.Line.{judgedText, packetText, hexOf, lineFault, saidOf, answerOf};
 use format::Answer;
+use format::Check;
+use format::DwellRecord;
+use format::JobRecord;
+use format::New;
+use sheet_walk::Place;
 
 // What both readings and the writer make of a packet.
 enum Verdict {
     // The Edition 3 reading refuses the packet: the demand says nothing of it.
     NotRead,
-    // The Edition 1 reading refuses with 15.
+    // The packet holds something new: the Edition 1 reading refuses it with 15, and names the first such thing.
     New,
-    // Both readings accept, and the filled in sheet is written back to the packet.
+    // It holds nothing new: both readings accept, their sheets are alike, and the filled in one is written back to the packet.
     Alike,
     // None of these: the demand does not hold.
     Broken,
@@ -37,6 +48,140 @@ struct Judged {
     verdict: Verdict,
     newer: Answer,
     older: Answer,
+}
+
+// The first thing in a segment that is new in Edition 3, as a row of the table of refusals. The body has what is looked at.
+fn new_row(segment_type: u8, b: &[u8]) -> Check
+    requires { ⌜ («segment_type» ≡ 2 → 8 ≤ length (now b)) × («segment_type» ≡ 5 → 46 ≤ length (now b)) ⌝ }
+    ensures { λ c. ⌜ c ≡ firstRow (newRows (record { type = «segment_type»; body = now (b .entry) })) ⌝ }
+{
+    if segment_type == 3 {
+        return Check::Failed(15, 0);
+    }
+    if segment_type == 2 {
+        let field = mask::new_in_mask(octets::get_u64(b, 0));
+        return checks::naming_row(15, field as usize);
+    }
+    if segment_type == 5 && editions::is_new_mode(b[JobRecord::J14]) {
+        return Check::Failed(15, 14);
+    }
+    Check::Passed
+}
+
+// The first thing in a packet that is new in Edition 3, where the Edition 3 reading finds no fault in it.
+fn first_new(packet: &[u8]) -> New
+    requires { ⌜ CheckedPacket (asEdition 3) (now packet) ⌝ }
+    ensures { λ n. ⌜ n ≡ firstNew 1 (parsed (asEdition 3) (now (packet .entry)) .segments) ⌝ }
+{
+    let mut at = format::HeaderRecord::LEN;
+    let mut segment = 1;
+    while at < packet.len() {
+        let t = &packet[at..];
+        let size = segments::size_at(t);
+        let segment_type = t[0];
+        if let Check::Failed(_, field) = new_row(segment_type, &t[5..size]) {
+            return New::Found(segment, field);
+        }
+        segment += 1;
+        at += size;
+    }
+    New::Nothing
+}
+
+// Whether the packet is of version 3: P1 begins with the character 3.
+fn is_version_3(packet: &[u8]) -> bool
+    ensures { λ r. ⌜ r ≡ eqb (version (now (packet .entry))) 3 ⌝ }
+{
+    0 < packet.len() && packet[0] == b'3'
+}
+
+// What the Edition 1 reading cannot read: nothing in a version 1 packet, and else the first new thing.
+fn new_in(packet: &[u8]) -> New
+    requires { ⌜ CheckedPacket (asEdition 3) (now packet) ⌝ }
+    ensures { λ n. ⌜ n ≡ newIn (now (packet .entry)) ⌝ }
+{
+    if is_version_3(packet) {
+        first_new(packet)
+    } else {
+        New::Nothing
+    }
+}
+
+// Whether i is one of the places from one up to another.
+fn is_within(i: usize, from: usize, to: usize) -> bool
+    ensures { λ r. ⌜ r ≡ (leb from i && ltb i to) ⌝ }
+{
+    from <= i && i < to
+}
+
+// Whether byte i of the body of a record of this kind is withheld: it is one of D27 or J26, or of the mark, which stands last.
+fn is_withheld_in(kind: u8, i: usize) -> bool
+    ensures { λ r. ⌜ ((b : List ℕ) → r ≡ isWithheldIn (record { kind = kind; body = b }) i) ⌝ }
+{
+    if kind == DwellRecord::KIND {
+        return is_within(i, DwellRecord::D27, DwellRecord::D27 + 2)
+            || is_within(i, DwellRecord::MARK, DwellRecord::LEN);
+    }
+    if kind == JobRecord::KIND {
+        return is_within(i, JobRecord::J26, JobRecord::J26 + 1)
+            || is_within(i, JobRecord::MARK, JobRecord::LEN);
+    }
+    false
+}
+
+// Byte i of the body of a record of this kind, as the older sheet is to have it.
+fn older_byte(kind: u8, i: usize, byte: u8) -> u8
+    ensures { λ r. ⌜ ((b : List ℕ) → r ≡ cond (isWithheldIn (record { kind = kind; body = b }) i) 0 byte) ⌝ }
+{
+    if is_withheld_in(kind, i) { 0 } else { byte }
+}
+
+// Whether the body of an older record is that of the newer one, of this kind, with zeros where it is withheld.
+fn is_older_body(kind: u8, older: &[u8], newer: &[u8]) -> bool
+    requires { ⌜ length (now older) ≡ length (now newer) ⌝ }
+    ensures { λ r. ⌜ r ≡ isSame (zeroWhere (isWithheldIn (record { kind = kind; body = now (newer .entry) })) (now (newer .entry))) (now (older .entry)) ⌝ }
+{
+    for i in 0..newer.len() {
+        if older_byte(kind, i, newer[i]) != older[i] {
+            return false;
+        }
+    }
+    true
+}
+
+// Whether the older sheet is the newer one with zeros where it is withheld, record by record of the newer one. Any bytes may be handed in:
+// nothing is withheld behind the last whole record.
+fn is_withheld_sheet(older: &[u8], newer: &[u8]) -> bool
+    ensures { λ r. ⌜ r ≡ isWithheldSheet (now (older .entry)) (now (newer .entry)) ⌝ }
+{
+    if older.len() != newer.len() {
+        return false;
+    }
+    let mut at = 0;
+    loop {
+        let Place::Whole(kind, end) = sheet_walk::record_at(newer, at) else {
+            return readback::same(&newer[at..], &older[at..]);
+        };
+        if kind != older[at] {
+            return false;
+        }
+        let body = at + 1;
+        if !is_older_body(kind, &older[body..end], &newer[body..end]) {
+            return false;
+        }
+        at = end;
+    }
+}
+
+// The same of the sheets of a packet: of a version 1 packet both are equal.
+fn is_older_sheet(packet: &[u8], older: &[u8], newer: &[u8]) -> bool
+    ensures { λ r. ⌜ r ≡ isOlderSheet (now (packet .entry)) (now (older .entry)) (now (newer .entry)) ⌝ }
+{
+    if is_version_3(packet) {
+        is_withheld_sheet(older, newer)
+    } else {
+        readback::same(newer, older)
+    }
 }
 
 // Whether the writer's answer and buffer are the packet l with these counts.
@@ -54,7 +199,17 @@ fn is_returned(l: &[u8], s: usize, d: usize, t: usize, a: Answer, buffer: &[u8])
     }
 }
 
-// Whether the older sheet, filled in from the newer, is written back to the packet l with these counts.
+// The older sheet, filled in from the newer one where the packet is of version 3: that of a version 1 packet shows all of it.
+fn fill_for(packet: &[u8], older: &mut [u8], newer: &[u8])
+    ensures { λ _. ⌜ now (older .exit) ≡ filledFor (now (packet .entry)) (now (older .entry)) (now (newer .entry)) ⌝ }
+{
+    if is_version_3(packet) {
+        filling::fill_in(older, newer);
+    }
+}
+
+// Whether the older sheet is the one that is due beside the newer one, and filled in from that is written back to the packet l with these
+// counts.
 fn is_alike(
     l: &[u8],
     s: usize,
@@ -66,19 +221,56 @@ fn is_alike(
 ) -> bool
     ensures { λ r. ⌜ r ≡ isAlike (now (l .entry)) s d t (now (older .entry)) (now (newer .entry)) (now (buffer .entry)) ⌝ }
 {
-    filling::fill_in(older, newer);
+    if !is_older_sheet(l, older, newer) {
+        return false;
+    }
+    fill_for(l, older, newer);
     let a = writer::write(older, buffer);
     is_returned(l, s, d, t, a, buffer)
 }
 
-// The verdict where the Edition 1 reading alone refuses, with this number.
-fn refusal_verdict(number: usize) -> Verdict
-    ensures { λ v. ⌜ v ≡ cond (eqb number 15) New Broken ⌝ }
+// The verdict where the packet holds nothing new, and the Edition 3 reading accepts with these counts and this length.
+fn alike_verdict(
+    l: &[u8],
+    s: usize,
+    d: usize,
+    t: usize,
+    n: usize,
+    a: Answer,
+    older: &mut [u8],
+    newer: &[u8],
+    buffer: &mut [u8],
+) -> Verdict
+    requires { ⌜ (n ≤ length (now older)) × (n ≤ length (now newer)) ⌝ }
+    ensures { λ v. ⌜ v ≡ alikeVerdict (now (l .entry)) s d t n a (now (older .entry)) (now (newer .entry)) (now (buffer .entry)) ⌝ }
 {
-    if number == 15 {
-        Verdict::New
-    } else {
-        Verdict::Broken
+    match a {
+        Answer::Refused(..) => Verdict::Broken,
+        Answer::Accepted(segments, dwells, targets, length) => {
+            if s != segments || d != dwells || t != targets || n != length {
+                return Verdict::Broken;
+            }
+            if is_alike(l, s, d, t, &mut older[..n], &newer[..n], buffer) {
+                Verdict::Alike
+            } else {
+                Verdict::Broken
+            }
+        }
+    }
+}
+
+// The verdict where the first new thing in the packet is in this segment and has this field.
+fn new_verdict(segment: usize, field: usize, a: Answer) -> Verdict
+    ensures { λ v. ⌜ v ≡ newVerdict segment field a ⌝ }
+{
+    match a {
+        Answer::Accepted(..) => Verdict::Broken,
+        Answer::Refused(number, its_segment, its_field) => {
+            if number != 15 || its_segment != segment || its_field != field {
+                return Verdict::Broken;
+            }
+            Verdict::New
+        }
     }
 }
 
@@ -94,30 +286,23 @@ fn older_verdict(
     newer: &[u8],
     buffer: &mut [u8],
 ) -> Verdict
-    requires { ⌜ (n ≤ length (now older)) × (n ≤ length (now newer)) ⌝ }
-    ensures { λ v. ⌜ v ≡ olderVerdict (now (l .entry)) s d t n a (now (older .entry)) (now (newer .entry)) (now (buffer .entry)) ⌝ }
+    requires { ⌜ CheckedPacket (asEdition 3) (now l) × (n ≤ length (now older)) × (n ≤ length (now newer)) ⌝ }
+    ensures { λ v. ⌜ v ≡ olderVerdict (now (l .entry)) s d t n (newIn (now (l .entry))) a (now (older .entry)) (now (newer .entry)) (now (buffer .entry)) ⌝ }
 {
-    match a {
-        Answer::Refused(number, _, _) => refusal_verdict(number),
-        Answer::Accepted(segments, dwells, targets, length) => {
-            if s != segments || d != dwells || t != targets || n != length {
-                return Verdict::Broken;
-            }
-            if is_alike(l, s, d, t, &mut older[..n], &newer[..n], buffer) {
-                Verdict::Alike
-            } else {
-                Verdict::Broken
-            }
-        }
+    match new_in(l) {
+        New::Nothing => alike_verdict(l, s, d, t, n, a, older, newer, buffer),
+        New::Found(segment, field) => new_verdict(segment, field, a),
     }
 }
 
-// Both readings of the packet l, and the writer. By demand 3 no version 3 packet is Broken, given a buffer at least as long as it.
+// Both readings of the packet l, and the writer. Of a version 3 packet that the Edition 3 reading accepts, and a buffer at least as long,
+// demand 3 holds, and the verdict is the one that it has. On a version 1 packet it is Alike.
 fn judge(l: &[u8], older: &mut [u8], newer: &mut [u8], buffer: &mut [u8]) -> Judged
     requires { ⌜ length (now older) ≡ length (now newer) ⌝ }
     ensures { λ j. ⌜ j .verdict ≡ verdictOf (now (l .entry)) (now (older .entry)) (now (newer .entry)) (now (buffer .entry)) ⌝ }
     ensures { λ j. ⌜ (j .newer ≡ read (asEdition 3) (now (l .entry)) (now (newer .entry)) .answer) × (j .older ≡ read (asEdition 1) (now (l .entry)) (now (older .entry)) .answer) ⌝ }
-    ensures { λ j. ⌜ (version (now (l .entry)) ≡ 3 → length (now (l .entry)) ≤ length (now (buffer .entry)) → j .verdict ≡ Broken → ⊥) ⌝ }
+    ensures { λ j. ⌜ ((s d t n : ℕ) → BothRead (now (l .entry)) (now (older .entry)) (now (newer .entry)) s d t n → length (now (l .entry)) ≤ length (now (buffer .entry)) → Demanded (now (l .entry)) (now (older .entry)) (now (newer .entry)) s d t n (j .verdict)) ⌝ }
+    ensures { λ j. ⌜ ((s d t n : ℕ) → Version1Read (now (l .entry)) (now (older .entry)) (now (newer .entry)) s d t n → length (now (l .entry)) ≤ length (now (buffer .entry)) → j .verdict ≡ Alike) ⌝ }
 {
     let a3 = reader::read(3, l, newer);
     let a1 = reader::read(1, l, older);

@@ -25,10 +25,6 @@ dwellWidths =
 abbrev pub targetWidths : List ℕ
 targetWidths = 2 ∷ 4 ∷ 4 ∷ 2 ∷ 2 ∷ 2 ∷ 2 ∷ 2 ∷ 1 ∷ 1 ∷ 1 ∷ 2 ∷ 2 ∷ 1 ∷ 2 ∷ 1 ∷ 4 ∷ 1 ∷ []
 
--- the widths of the fields from the first to the last of these numbers
-abbrev pub widths : ℕ → ℕ → List ℕ
-widths first last = take (last + 1 - first) (drop (first - 2) (dwellWidths ++ targetWidths))
-
 -- the bytes that field n of width w takes in the packet: none where it is not announced
 abbrev pub taken : ℕ → ℕ → ℕ → ℕ
 taken mask n w = cond (announced mask n) w 0

@@ -1,3 +1,4 @@
 pub mod Fields
 pub mod Mask
+pub mod InnerFields
 pub mod Trials

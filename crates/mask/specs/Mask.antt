@@ -2,8 +2,7 @@
 -- The rules go by the packet's version, 1 or 3, and not by the edition that it is read as.
 -- Assumes nothing.
 use Prim.Native.Nat.{ℕ, zero, suc}
-use mathlib.Core.Path.{_≡_}
-use mathlib.Core.Bool.{Bool, true, false, not, _&&_, _||_, cond}
+use mathlib.Core.Bool.{Bool, false, not, _&&_, _||_, cond}
 use mathlib.Core.List.{List, [], _∷_, _++_}
 use lib.Dec.{eqb}
 use Rattle.octets.specs.Octets.{between}
@@ -12,10 +11,6 @@ use Rattle.mask.specs.Fields.{announced, d32}
 -- "one of D2 to D9, D24 to D27"
 unfoldable pub isRequired : ℕ → Bool
 isRequired n = between 2 9 n || between 24 27 n
-
--- every required field is announced
-abbrev pub Required : ℕ → Type 0
-Required mask = (n : ℕ) → isRequired n ≡ true → announced mask n ≡ true
 
 -- "reserved (50 to 65; also 49, D32.18, in version 1)"
 unfoldable pub isReserved : ℕ → ℕ → Bool

@@ -6,7 +6,8 @@ ghost use Prim.Native.Nat.{ℕ, _-_, _/_, _%_, _^_, _≤_, _<_};
 ghost use lib.ListN.{getD};
 ghost use lib.Bits.{bitAnd};
 ghost use lib.Dec.{eqb};
-ghost use Rattle.mask.specs.Fields.{announced, announcedLength, dwellWidths, targetWidths, widths, dwellSize};
+ghost use Rattle.mask.specs.Fields.{announced, announcedLength, dwellWidths, targetWidths, dwellSize};
+ghost use Rattle.mask.specs.InnerFields.{widths};
 ghost use Rattle.mask.specs.Mask.{isFault, isDoubled, lowestFault, newInMask, isPlaced};
 
 // Sets of fields, each a word with their bits; those that other crates need too are public.

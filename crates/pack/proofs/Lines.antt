@@ -14,9 +14,9 @@ use Rattle.octets.specs.Layout.{total}
 use Rattle.octets.proofs.Laws.{then}
 use Rattle.mask.specs.Fields.{announced, announcedLength, announcedFields}
 use Rattle.mask.proofs.FullWidth.{length-announced, announced-append, fields-append}
-use Rattle.unpack.specs.Together.{allSet, noneSet}
+use Rattle.unpack.proofs.Together.{allSet, noneSet}
 use Rattle.unpack.proofs.Lines.{all-of, none-of, all-length, none-length}
-use Rattle.pack.specs.Packed.{Packable, Packed}
+use Rattle.pack.specs.InnerPacked.{Packable, Packed}
 
 -- a line of the widths us, then one of the widths vs where it ends, is a line of both, if s has the fields of both
 pub onward : {mask n p q r t : ℕ} {us vs s l a b : List ℕ} → (p + total us ≤ length s → Packed mask n us s p l q r a)

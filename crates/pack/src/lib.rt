@@ -4,8 +4,9 @@
 // A function has at most six calls that store: behind more of them the prover does not find what the function requires.
 ghost use mathlib.Core.List.{[], _∷_};
 ghost use Prim.Native.Nat.{_≤_};
-ghost use Rattle.mask.specs.Fields.{dwellWidths, targetWidths, widths};
-ghost use Rattle.pack.specs.Packed.{Packable, Packed};
+ghost use Rattle.mask.specs.Fields.{dwellWidths, targetWidths};
+ghost use Rattle.mask.specs.InnerFields.{widths};
+ghost use Rattle.pack.specs.InnerPacked.{Packable, Packed};
 
 // The blocks, each as a word with the bits of its fields.
 const D2_TO_9: u64 = 0xFF00_0000_0000_0000;

@@ -9,7 +9,7 @@ use borrow.Author.Tests.{leb-true, leb-false, le-leb, lt-leb}
 use lib.IntN.{ℤ, pos, negsuc, natAbs, _+ℤ_, _*ℤ_}
 use lib.Signed.{leZ}
 use Rattle.position.specs.Position.{latitudeSum, isLatitude}
-use Rattle.position.specs.Always.{isAlwaysLatitude}
+use Rattle.position.specs.InnerAlways.{isAlwaysLatitude}
 use Rattle.position.proofs.Size.{abs-add, mul-sized}
 
 -- below the least latitude there is none, so that the first test says no for both

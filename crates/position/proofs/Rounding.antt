@@ -14,7 +14,7 @@ use mir.Val.{SFits, toZ, ofZ}
 use mir.Facts.{toZ-ofZ}
 use Rattle.position.proofs.Size.{abs-negℤ, abs-add, mul-sized, sized}
 use Rattle.position.specs.Position.{nearest, rounded, latitudeMicro, fullCircle, longitudeMicro}
-use Rattle.position.specs.Half.{halfAway}
+use Rattle.position.specs.InnerHalf.{halfAway}
 
 -- no natural number is below zero
 below-zero : {P : Type 0} (n : ℕ) → ltb n 0 ≡ true → P

@@ -1,4 +1,4 @@
 pub mod Position
-pub mod Half
-pub mod Always
+pub mod InnerHalf
+pub mod InnerAlways
 pub mod Trials

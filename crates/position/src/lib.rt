@@ -4,8 +4,8 @@ ghost use mathlib.Core.Bool.{true};
 ghost use Prim.Native.Nat.{_≤_, _^_};
 ghost use lib.IntN.{natAbs};
 ghost use Rattle.position.specs.Position.{latitudeSum, isLatitude, latitudeMicro, longitudeSum, longitudeMicro};
-ghost use Rattle.position.specs.Half.{halfAway};
-ghost use Rattle.position.specs.Always.{isAlwaysLatitude};
+ghost use Rattle.position.specs.InnerHalf.{halfAway};
+ghost use Rattle.position.specs.InnerAlways.{isAlwaysLatitude};
 
 // Latitude steps, form SA32: each is 180/2^32 degrees. A sum of them may leave the 32 bits, so they are held in 64.
 pub struct Sa32(pub i64);

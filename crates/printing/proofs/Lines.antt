@@ -14,7 +14,8 @@ use Rattle.octets.specs.Layout.{total}
 use Rattle.mask.specs.Fields.{targetWidths}
 use Rattle.format.specs.declared.Answer.{Answer}
 use Rattle.format.specs.declared.Answer.the-variants.{Accepted, Refused}
-use Rattle.printing.specs.Printing.{Put, decimal, signedDecimal, spaced, answerText, targetLine}
+use Rattle.printing.specs.Printing.{decimal, signedDecimal, spaced, answerText, targetLine}
+use Rattle.printing.specs.InnerPut.{Put}
 use Rattle.printing.proofs.Digits.{decimal-one, decimal-more, decimal-fits}
 
 -- l with vs stored from `at` on is a, and p is the place behind them

@@ -14,7 +14,8 @@ use Rattle.format.specs.declared.Answer.the-variants.{Accepted, Refused}
 use Rattle.format.specs.Sheet.{bodyLength}
 use Rattle.format.specs.Writer.{Listed, listed}
 use Rattle.sheet_walk.proofs.Places.{WholeAt, cutAt}
-use Rattle.printing.specs.Printing.{Put, answerLine, recordLine, targetLines, printed}
+use Rattle.printing.specs.Printing.{answerLine, recordLine, targetLines, printed}
+use Rattle.printing.specs.InnerPut.{Put}
 use Rattle.printing.proofs.Lines.{laid-join, put-none, put-join, put-within}
 
 -- a record ends behind the body that its kind fixes

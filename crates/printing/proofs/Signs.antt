@@ -14,7 +14,8 @@ use lib.Signed.{nonNeg, ltZ}
 use mir.Syntax.{w32, w64}
 use mir.Val.{Fits, SFits, toZ, ofZ}
 use mir.Facts.{toZ-pos}
-use Rattle.printing.specs.Printing.{Put, decimal, signedDecimal}
+use Rattle.printing.specs.Printing.{decimal, signedDecimal}
+use Rattle.printing.specs.InnerPut.{Put}
 use Rattle.printing.proofs.Digits.{decimal-fits}
 use Rattle.printing.proofs.Lines.{Laid, put-led}
 

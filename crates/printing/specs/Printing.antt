@@ -1,14 +1,12 @@
 -- What the program prints: "It prints `ok` segments dwells targets sheet length, then each target's latitude and longitude on a line, or
 -- `no` number segment field" (document 01, 'Trials'), in ASCII.
 -- Assumes nothing.
-use Prim.Native.Nat.{ℕ, zero, suc, _+_, _/_, _%_, _≤_}
-use mathlib.Core.Path.{_≡_}
+use Prim.Native.Nat.{ℕ, zero, suc, _+_, _/_, _%_}
 use mathlib.Core.Bool.{cond}
 use mathlib.Core.List.{List, [], _∷_, _++_}
 use lib.Dec.{eqb}
 use lib.IntN.{ℤ, pos, negsuc}
-use lib.ListN.{length, take, drop}
-use lib.Seq.{sets}
+use lib.ListN.{take, drop}
 use Rattle.octets.specs.Octets.{be, signed}
 use Rattle.octets.specs.Layout.{total}
 use Rattle.mask.specs.Fields.{targetWidths}
@@ -16,12 +14,6 @@ use Rattle.format.specs.declared.Answer.{Answer}
 use Rattle.format.specs.declared.Answer.the-variants.{Accepted, Refused}
 use Rattle.format.specs.Sheet.{Record}
 use Rattle.format.specs.Writer.{listed}
-
--- l with the bytes vs stored from a place on is a; p is the place behind them, within so many bytes of the first
-pub record Put (most : ℕ) (l : List ℕ) (at : ℕ) (vs : List ℕ) (p : ℕ) (a : List ℕ) : Type 0 where
-  pub next : p ≡ at + length vs
-  pub room : p ≤ at + most
-  pub stored : a ≡ sets l at vs
 
 -- the digit of a number below 10: '0' is 48
 abbrev pub digit : ℕ → ℕ

@@ -14,13 +14,14 @@ use Rattle.octets.proofs.Parts.{tail-is, part-is, length-part}
 use Rattle.format.specs.declared.Area.{Area}
 use Rattle.format.specs.Dwell.{targetLength}
 use Rattle.format.specs.declared.Check.the-variants.{Passed}
-use Rattle.format.specs.Sheet.{Record, recordLength, targetRecords, pieceRecords, pieceCount, piecesOf, recordBytes}
+use Rattle.format.specs.Sheet.{Record, targetRecords, pieceRecords, pieceCount, piecesOf, recordBytes}
+use Rattle.format.specs.Lengths.{recordLength}
 use Rattle.format.specs.Rows.{firstRow, targetsRows}
 use Rattle.format.specs.Writer.{isSame}
 use Rattle.format.proofs.Lengths.{bytes-append, length-targets, length-pieces}
 use Rattle.records.proofs.Pieces.{pieces-split}
 use Rattle.dwell_records.proofs.Targets.{targets-append, rows-append}
-use Rattle.readback.specs.Window.{windowLength}
+use Rattle.readback.specs.InnerWindow.{windowLength}
 use Rattle.readback.proofs.Fronts.{front-differs, front-same}
 
 -- ---- targets
@@ -115,22 +116,26 @@ pieces-batch n k b e = go (leb (n * 32) (length b)) refl
 abbrev pub most : ℕ
 most = windowLength / recordLength 6 * 32
 
--- as many pieces as the window has room for, of the k bytes behind those that stand before `at`, on x behind its first q bytes
-module _ (b x : List ℕ) (at k q : ℕ) (size : k ≡ min most (length b - at)) (within : at ≤ length b) (whole : q + pieceCount (length b - at) * recordLength 6 ≡ length x) where
+-- as many pieces as the window has room for, of the k bytes behind those that stand before `at`: n bytes of x behind its first q
+module _ (b x : List ℕ) (at k n q : ℕ) (size : k ≡ min most (length b - at)) (bytes : n ≡ pieceCount k * recordLength 6) (within : at ≤ length b) (whole : q + pieceCount (length b - at) * recordLength 6 ≡ length x) where
   -- the pieces behind them
-  pub pieces-left : q + (k + 31) / 32 * recordLength 6 + pieceCount (length b - (at + k)) * recordLength 6 ≡ length x
+  pub pieces-left : q + n + pieceCount (length b - (at + k)) * recordLength 6 ≡ length x
   unfolding pieceCount
   pieces-left = omega arith
 
   -- those of the batch
-  pub batch-length : pieceCount (length (take (at + k - at) (drop at b))) * recordLength 6 ≡ (k + 31) / 32 * recordLength 6
+  pub batch-length : pieceCount (length (take (at + k - at) (drop at b))) * recordLength 6 ≡ n
+  batch-length = ap (λ (m : ℕ). pieceCount m * recordLength 6) (length-part b at k (omega arith)) ∙ sym bytes
+
+  -- which the window has room for
+  pub pieces-fit : n ≤ windowLength
   unfolding pieceCount
-  batch-length = ap (λ (n : ℕ). pieceCount n * recordLength 6) (length-part b at k (omega arith))
+  pieces-fit = omega arith
 
   -- the batch in the window, compared with its part of x
   module _ (w₀ w : List ℕ) {r : Bool} (room : windowLength ≤ length w₀)
       (filled : w ≡ sets w₀ 0 (recordBytes (piecesOf (take (at + k - at) (drop at b)))))
-      (told : r ≡ isSame (take (length (take (q + (k + 31) / 32 * recordLength 6 - q) (drop q x))) w) (take (q + (k + 31) / 32 * recordLength 6 - q) (drop q x))) where
+      (told : r ≡ isSame (take (length (take (q + n - q) (drop q x))) w) (take (q + n - q) (drop q x))) where
     abbrev batch-pieces : List ℕ
     batch-pieces = recordBytes (piecesOf (take (at + k - at) (drop at b)))
 
@@ -143,17 +148,17 @@ module _ (b x : List ℕ) (at k q : ℕ) (size : k ≡ min most (length b - at))
         ∙ bytes-append (piecesOf (take k (drop at b))) (piecesOf (drop k (drop at b)))
         ∙ ap₂ (λ (y z : List ℕ). recordBytes (piecesOf y) ++ recordBytes (piecesOf z)) (sym (part-is b at k)) (drop-drop k at b)
 
-    long : length batch-pieces ≡ (k + 31) / 32 * recordLength 6
+    long : length batch-pieces ≡ n
     long = length-pieces _ (take (at + k - at) (drop at b)) ∙ batch-length
 
     pub pieces-differ : r ≡ false → false ≡ isSame (recordBytes (piecesOf (drop at b))) (drop q x)
     pieces-differ e =
-        front-differs batch-pieces later-pieces x w₀ w q ((k + 31) / 32 * recordLength 6) filled long (omega arith) (omega (arith, pieces-left)) told e
+        front-differs batch-pieces later-pieces x w₀ w q n filled long (omega (arith, pieces-fit)) (omega (arith, pieces-left)) told e
         ∙ sym (ap (λ (y : List ℕ). isSame y (drop q x)) pieces-both)
 
-    pub pieces-same : r ≡ true → isSame (recordBytes (piecesOf (drop (at + k) b))) (drop (q + (k + 31) / 32 * recordLength 6) x) ≡ isSame (recordBytes (piecesOf (drop at b))) (drop q x)
+    pub pieces-same : r ≡ true → isSame (recordBytes (piecesOf (drop (at + k) b))) (drop (q + n) x) ≡ isSame (recordBytes (piecesOf (drop at b))) (drop q x)
     pieces-same e =
-        front-same batch-pieces later-pieces x w₀ w q ((k + 31) / 32 * recordLength 6) filled long (omega arith) (omega (arith, pieces-left)) told e
+        front-same batch-pieces later-pieces x w₀ w q n filled long (omega (arith, pieces-fit)) (omega (arith, pieces-left)) told e
         ∙ sym (ap (λ (y : List ℕ). isSame y (drop q x)) pieces-both)
 
 -- no bytes are left, and nothing of x

@@ -7,7 +7,8 @@ use mathlib.Core.List.{List, [], _∷_}
 use lib.ListN.{length, take, drop, length-drop}
 use Rattle.octets.proofs.Parts.{tail-is}
 use Rattle.format.specs.declared.Reading.{Reading}
-use Rattle.format.specs.Sheet.{bodyLength, recordLength, dwellRecord, recordBytes}
+use Rattle.format.specs.Sheet.{bodyLength, dwellRecord, recordBytes}
+use Rattle.format.specs.Lengths.{recordLength}
 use Rattle.format.proofs.Lengths.{length-one}
 
 -- the record of a dwell

@@ -12,8 +12,8 @@ use Rattle.format.specs.Sheet.{Record, opaqueRecords, segmentRecords, recordByt
 use Rattle.format.specs.Writer.{isSame}
 use Rattle.format.proofs.Types.{by-number}
 use Rattle.format.proofs.Lengths.{bytes-append, recordsOf, length-segment}
-use Rattle.segments.specs.Walk.{bytesOf}
-use Rattle.readback.specs.Window.{windowLength}
+use Rattle.segments.specs.InnerWalk.{bytesOf}
+use Rattle.readback.specs.InnerWindow.{windowLength}
 use Rattle.readback.proofs.Fronts.{front-is}
 
 -- laid out in the window, as many bytes as x has

@@ -8,18 +8,19 @@ ghost use lib.Dec.{eqb};
 ghost use lib.ListN.{length, take};
 ghost use Rattle.format.specs.declared.Check.the-variants.{Passed};
 ghost use Rattle.format.specs.Dwell.{targetCount};
-ghost use Rattle.format.specs.Sheet.{recordLength, targetRecords, dwellRecords, piecesOf, pieceCount, recordBytes};
+ghost use Rattle.format.specs.Sheet.{targetRecords, dwellRecords, piecesOf, pieceCount, recordBytes};
+ghost use Rattle.format.specs.Lengths.{recordLength};
 ghost use Rattle.format.specs.Rows.{firstRow, targetsRows, dwellRows};
 ghost use Rattle.format.specs.Reader.{sheet};
 ghost use Rattle.format.specs.Writer.{isSame};
-ghost use Rattle.dwell_checks.specs.Plan.{Holds};
-ghost use Rattle.segments.specs.Walk.{Checked, bytesOf, CheckedAll, CheckedPacket, allBytes};
-ghost use Rattle.readback.specs.Window.{windowLength};
+ghost use Rattle.dwell_checks.specs.InnerPlan.{Holds};
+ghost use Rattle.segments.specs.InnerWalk.{Checked, bytesOf, CheckedAll, CheckedPacket, allBytes};
+ghost use Rattle.readback.specs.InnerWindow.{windowLength};
 
-// The bytes of the window that records are laid out in. A caller lends so many.
-pub const WINDOW: usize = 512;
+// The bytes of the window that records are laid out in.
+const WINDOW: usize = 512;
 
-// The bytes of a dwell's record, of a target's and of a piece's, and how many of the last two the window has room for.
+// How many targets and how many pieces it has room for.
 const TARGETS: usize = WINDOW / format::TargetRecord::WHOLE;
 
 const PIECES: usize = WINDOW / format::PieceRecord::WHOLE;
@@ -108,7 +109,7 @@ fn same_pieces(b: &[u8], x: &[u8], window: &mut [u8]) -> bool
     while at < b.len() {
         let k = least(CARRIED, b.len() - at);
         let end = at + k;
-        let to = q + (k + 31) / 32 * format::PieceRecord::WHOLE;
+        let to = q + segments::pieces_length(k);
         records::piece_records(&b[at..end], window);
         if !is_front(window, &x[q..to]) {
             return false;
@@ -144,7 +145,12 @@ fn same_segment(r: format::Reading, segment_type: u8, b: &[u8], x: &[u8], window
         2 => same_dwell(r, b, x, window),
         6 => {
             records::text_record(b, window);
-            same_with_pieces(format::TextRecord::WHOLE, &b[20..], x, window)
+            same_with_pieces(
+                format::TextRecord::WHOLE,
+                &b[format::TextRecord::F3..],
+                x,
+                window,
+            )
         }
         _ => {
             records::opaque_record(segment_type, b, window);
@@ -175,8 +181,8 @@ fn same_records(r: format::Reading, l: &[u8], x: &[u8], window: &mut [u8]) -> bo
     true
 }
 
-// Whether x is the sheet of a packet to which no row applies, read with these settings.
-pub fn is_sheet(settings: format::Settings, packet: &[u8], x: &[u8], window: &mut [u8]) -> bool
+// The whole sheet of a packet to which no row applies, read with these settings.
+fn same_sheet(settings: format::Settings, packet: &[u8], x: &[u8], window: &mut [u8]) -> bool
     requires { ⌜ CheckedPacket settings (now packet) × (length (sheet settings (now packet)) ≡ length (now x)) × (windowLength ≤ length (now window)) ⌝ }
     ensures { λ r. ⌜ r ≡ isSame (sheet settings (now (packet .entry))) (now (x .entry)) ⌝ }
 {
@@ -186,5 +192,14 @@ pub fn is_sheet(settings: format::Settings, packet: &[u8], x: &[u8], window: &mu
     if !is_front(window, &x[0..head]) {
         return false;
     }
-    same_records(r, &packet[32..], &x[head..], window)
+    same_records(r, &packet[format::HeaderRecord::LEN..], &x[head..], window)
+}
+
+// Whether x is the sheet of a packet to which no row applies, read with these settings.
+pub fn is_sheet(settings: format::Settings, packet: &[u8], x: &[u8]) -> bool
+    requires { ⌜ CheckedPacket settings (now packet) × (length (sheet settings (now packet)) ≡ length (now x)) ⌝ }
+    ensures { λ r. ⌜ r ≡ isSame (sheet settings (now (packet .entry))) (now (x .entry)) ⌝ }
+{
+    let mut window = [0u8; WINDOW];
+    same_sheet(settings, packet, x, &mut window)
 }

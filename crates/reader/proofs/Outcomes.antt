@@ -20,13 +20,14 @@ use Rattle.format.specs.declared.Check.{Check}
 use Rattle.format.specs.declared.Check.the-variants.{Passed, Failed}
 use Rattle.format.specs.declared.Answer.{Answer}
 use Rattle.format.specs.declared.Answer.the-variants.{Accepted, Refused}
-use Rattle.format.specs.Sheet.{recordLength, headerRecord, recordBytes}
+use Rattle.format.specs.Sheet.{headerRecord, recordBytes}
+use Rattle.format.specs.Lengths.{recordLength}
 use Rattle.format.specs.Answer.{outcome, leftBy}
 use Rattle.format.specs.Rows.{firstRow, headerRows}
 use Rattle.format.specs.Reader.{parse, readingOf, parsed, sheet, segmentsAnswer, readingAnswer, read}
 use Rattle.format.proofs.Acceptance.{no-refusal, same-length, Acceptable, answerOf, accepted-only, read-when}
 use Rattle.format.proofs.Lengths.{length-header, length-sheet}
-use Rattle.segments.specs.Walk.{noDwells, answerFrom}
+use Rattle.segments.specs.InnerWalk.{noDwells, answerFrom}
 use Rattle.segments.proofs.Counting.{dwells-are}
 
 -- ---- the answer

@@ -1,12 +1,13 @@
 // Both readings: a packet of any bytes, read as any edition onto a lent sheet.
 ghost use mathlib.Core.Path.{_≡_};
+ghost use mathlib.Core.List.{[]};
 ghost use Prim.Native.Nat.{_≤_};
 ghost use lib.ListN.{length};
 ghost use lib.Seq.{sets};
 ghost use Rattle.format.specs.Answer.{outcome};
 ghost use Rattle.format.specs.Edition.{asEdition};
-ghost use Rattle.format.specs.Reader.{sheet as sheetOf, readingAnswer, read as readOutcome};
-ghost use Rattle.segments.specs.Walk.{Checked, bytesOf, CheckedAll, CheckedPacket, allBytes};
+ghost use Rattle.format.specs.Reader.{sheet as sheetOf, readingAnswer, check as checkOutcome, read as readOutcome};
+ghost use Rattle.segments.specs.InnerWalk.{Checked, bytesOf, CheckedAll, CheckedPacket, allBytes};
 use format::Answer;
 use format::Check;
 
@@ -61,7 +62,7 @@ fn check_with(settings: format::Settings, packet: &[u8]) -> Answer
         return Answer::Refused(number, 0, field);
     }
     let r = checks::reading_of(settings, packet);
-    segments::check(r, &packet[32..])
+    segments::check(r, &packet[format::HeaderRecord::LEN..])
 }
 
 // The sheet of a packet to which no row applies: the header's record, and those of the segments behind it.
@@ -71,7 +72,11 @@ fn set_out(settings: format::Settings, packet: &[u8], sheet: &mut [u8])
 {
     let r = checks::reading_of(settings, packet);
     records::header_record(packet, sheet);
-    packet_records(r, &packet[32..], &mut sheet[format::HeaderRecord::WHOLE..]);
+    packet_records(
+        r,
+        &packet[format::HeaderRecord::LEN..],
+        &mut sheet[format::HeaderRecord::WHOLE..],
+    );
 }
 
 // The sheet set out where it is lent enough. Nothing is written before every row has been looked at.
@@ -93,7 +98,7 @@ fn read_with(settings: format::Settings, packet: &[u8], sheet: &mut [u8]) -> Ans
 
 // The answer of the packet read as this edition, with no sheet lent.
 pub fn check(edition: u32, packet: &[u8]) -> Answer
-    ensures { λ a. ⌜ a ≡ readingAnswer (asEdition edition) (now (packet .entry)) (length (sheetOf (asEdition edition) (now (packet .entry)))) ⌝ }
+    ensures { λ a. ⌜ outcome a [] ≡ checkOutcome (asEdition edition) (now (packet .entry)) ⌝ }
 {
     check_with(format::Settings { edition }, packet)
 }

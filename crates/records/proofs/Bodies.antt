@@ -3,7 +3,7 @@
 use mathlib.Core.Path.{_≡_, refl, sym, ap, _∙_}
 use mathlib.Core.Bool.{Bool, true, false, cond}
 use mathlib.Core.List.{List, [], _∷_, _++_, append-assoc}
-use Prim.Native.Nat.{ℕ, suc, _-_, _≤_}
+use Prim.Native.Nat.{ℕ, suc, _+_, _-_, _≤_}
 use native.Mathlib.Omega.{arith}
 use lib.ListN.{length, getD, set, take, drop, length-append, length-set}
 use lib.Seq.{sets, set-split, set-getD, take-all, length-take-le}
@@ -13,8 +13,9 @@ use Rattle.octets.proofs.Laws.{length-bytes, then}
 use Rattle.format.specs.declared.Reading.{Reading}
 use Rattle.format.specs.Packet.{jobWidths}
 use Rattle.format.specs.Edition.{isOlder, shown, mark}
-use Rattle.format.specs.Sheet.{bodyLength, recordLength, recordOf, piecesOf, textRecords, opaqueRecords, jobRecords, recordBytes}
-use Rattle.records.proofs.Stores.{sets-within}
+use Rattle.format.specs.Sheet.{bodyLength, recordOf, piecesOf, textRecords, opaqueRecords, jobRecords, recordBytes}
+use Rattle.format.specs.Lengths.{recordLength}
+use Rattle.copies.proofs.Stores.{sets-within}
 use Rattle.format.proofs.Lengths.{length-one}
 use Rattle.records.proofs.Laid.{record-laid, records-then, full-body}
 
@@ -31,10 +32,11 @@ j26-shown r b h = go (isOlder r)
 
 -- its record: the body, J26 in it once more as it is shown, and the mark
 pub job-laid : (r : Reading) (b l : List ℕ) {x y z w : List ℕ}
-    → length b ≡ 68 → x ≡ sets l 0 (8 ∷ []) → y ≡ sets x 1 (take 68 (drop 0 b)) → z ≡ sets y 66 (cond (isOlder r) 0 (getD b 65 0) ∷ []) → w ≡ sets z 69 (mark r ∷ [])
+    → length b + 1 ≡ bodyLength 8 → x ≡ sets l 0 (8 ∷ []) → y ≡ sets x 1 (take 68 b) → z ≡ sets y 66 (cond (isOlder r) 0 (getD b 65 0) ∷ []) → w ≡ sets z 69 (mark r ∷ [])
     → w ≡ sets l 0 (recordBytes (jobRecords r b))
 unfolding jobRecords bodyLength
-job-laid r b l {x} {y} {z} h hx hy hz hw =
+job-laid r b l {x} {y} {z} e hx hy hz hw =
+    let h : length b ≡ 68 = omega arith in
     let s = shown r 1 jobWidths 26 b in
     let n : length s ≡ 68 = ap length (sym (j26-shown r b h)) ∙ length-set b 65 _ ∙ h in
     let v : z ≡ sets x 1 s =
@@ -47,7 +49,7 @@ job-laid r b l {x} {y} {z} h hx hy hz hw =
 
 -- the record of a text: F1 and F2, and the length of F3
 pub text-first : (b l : List ℕ) {x y w : List ℕ}
-    → 20 ≤ length b → x ≡ sets l 0 (5 ∷ []) → y ≡ sets x 1 (take 20 (drop 0 b)) → w ≡ sets y 21 (bytes 4 (length b - 20))
+    → 20 ≤ length b → x ≡ sets l 0 (5 ∷ []) → y ≡ sets x 1 (take 20 b) → w ≡ sets y 21 (bytes 4 (length b - 20))
     → w ≡ sets l 0 (recordBytes (recordOf 5 (take 20 b ++ bytes 4 (length b - 20)) ∷ []))
 unfolding bodyLength
 text-first b l {x} h hx hy hw =

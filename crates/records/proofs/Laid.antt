@@ -23,10 +23,10 @@ record-laid kind b v l e hm hw =
     then (kind ∷ []) v l 0 1 hm refl hw
     ∙ ap (λ (x : List ℕ). sets l 0 (kind ∷ x)) (sym e ∙ sym (append-nil (pad (bodyLength kind) b)))
 
--- so where the body is copied
-pub record-copied : (kind n : ℕ) (b l : List ℕ) {m w : List ℕ}
-    → bodyLength kind ≡ n → n ≤ length b → m ≡ sets l 0 (kind ∷ []) → w ≡ sets m 1 (take n (drop 0 b)) → w ≡ sets l 0 (recordBytes (recordOf kind b ∷ []))
-record-copied kind n b l e h hm hw = record-laid kind b (take n b) l (rw e (pad-take n b h)) hm hw
+-- so where as many bytes are copied as the kind fixes
+pub record-copied : (kind : ℕ) (b l : List ℕ) {m w : List ℕ}
+    → bodyLength kind ≤ length b → m ≡ sets l 0 (kind ∷ []) → w ≡ sets m 1 (take (bodyLength kind) b) → w ≡ sets l 0 (recordBytes (recordOf kind b ∷ []))
+record-copied kind b l h hm hw = record-laid kind b (take (bodyLength kind) b) l (pad-take (bodyLength kind) b h) hm hw
 
 -- records that are stored where others end are in a row
 pub records-then : (qs rs : List Record) (l : List ℕ) (at n : ℕ) {m w : List ℕ}

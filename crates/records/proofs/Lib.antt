@@ -1,4 +1,3 @@
-pub mod Stores
 pub mod Laid
 pub mod Pieces
 pub mod Bodies

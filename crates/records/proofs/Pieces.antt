@@ -11,8 +11,9 @@ use lib.Seq.{sets, take-take, take-all, length-take-le}
 use Rattle.octets.specs.Layout.{pad}
 use Rattle.octets.proofs.Laws.{then}
 use Rattle.octets.proofs.Layouts.{pad-take, length-pad}
-use Rattle.format.specs.Sheet.{Record, bodyLength, recordLength, recordOf, recordBytes, pieceRecord, pieceRecords, pieceCount, piecesOf}
-use Rattle.records.proofs.Stores.{sets-within}
+use Rattle.format.specs.Sheet.{Record, bodyLength, recordOf, recordBytes, pieceRecord, pieceRecords, pieceCount, piecesOf}
+use Rattle.format.specs.Lengths.{recordLength}
+use Rattle.copies.proofs.Stores.{sets-within}
 use Rattle.format.proofs.Lengths.{length-one, length-pieces}
 use Rattle.format.proofs.Segments.{part-is}
 use Rattle.records.proofs.Laid.{record-laid, records-then, records-next, records-append}

@@ -1,4 +1,5 @@
-// The records of a sheet that are laid out from bytes at constant places: a filler for each gets the sheet from its place on.
+// The records of a sheet that are laid out from bytes at constant places: a filler for each gets the sheet from its place on. What is copied is
+// cut to the length that the record has for it, which the compiler so knows.
 ghost use mathlib.Core.Path.{_≡_};
 ghost use mathlib.Core.Bool.{cond};
 ghost use mathlib.Core.List.{[], _∷_, _++_};
@@ -7,7 +8,8 @@ ghost use lib.ListN.{length, take};
 ghost use lib.Seq.{sets};
 ghost use Rattle.octets.specs.Octets.{bytes};
 ghost use Rattle.format.specs.Edition.{isOlder};
-ghost use Rattle.format.specs.Sheet.{recordLength, recordOf, headerRecord, pieceRecord, pieceRecords, piecesOf, pieceCount, missionRecords, textRecords, opaqueRecords, jobRecords, testRecords, locationRecords, recordBytes};
+ghost use Rattle.format.specs.Sheet.{bodyLength, recordOf, headerRecord, pieceRecord, pieceRecords, piecesOf, pieceCount, missionRecords, textRecords, opaqueRecords, jobRecords, testRecords, locationRecords, recordBytes};
+ghost use Rattle.format.specs.Lengths.{recordLength};
 
 // Places in whole records, which begin with their kind.
 const J26: usize = 1 + format::JobRecord::J26;
@@ -34,19 +36,19 @@ pub fn put_byte(o: &mut [u8], q: usize, v: u8)
 }
 
 pub fn header_record(l: &[u8], o: &mut [u8])
-    requires { ⌜ (32 ≤ length (now l)) × (recordLength 1 ≤ length (now o)) ⌝ }
+    requires { ⌜ (bodyLength 1 ≤ length (now l)) × (recordLength 1 ≤ length (now o)) ⌝ }
     ensures { λ _. ⌜ now (o .exit) ≡ sets (now (o .entry)) 0 (recordBytes (headerRecord (now (l .entry)) ∷ [])) ⌝ }
 {
     put_byte(o, 0, format::HeaderRecord::KIND);
-    copies::copy32(l, 0, o, 1);
+    copies::copy32(&l[..format::HeaderRecord::LEN], 0, o, 1);
 }
 
 pub fn mission_records(b: &[u8], o: &mut [u8])
-    requires { ⌜ (length (now b) ≡ 39) × (recordLength 2 ≤ length (now o)) ⌝ }
+    requires { ⌜ (length (now b) ≡ bodyLength 2) × (recordLength 2 ≤ length (now o)) ⌝ }
     ensures { λ _. ⌜ now (o .exit) ≡ sets (now (o .entry)) 0 (recordBytes (missionRecords (now (b .entry)))) ⌝ }
 {
     put_byte(o, 0, format::MissionRecord::KIND);
-    copies::copy39(b, 0, o, 1);
+    copies::copy32_to_40(&b[..format::MissionRecord::LEN], o, 1);
 }
 
 // J26 as the reading shows it.
@@ -56,30 +58,31 @@ fn j26_shown(r: format::Reading, j26: u8) -> u8
     if editions::is_older(r) { 0 } else { j26 }
 }
 
+// Its body is one byte shorter than the record's, which ends with the mark.
 pub fn job_records(r: format::Reading, b: &[u8], o: &mut [u8])
-    requires { ⌜ (length (now b) ≡ 68) × (recordLength 8 ≤ length (now o)) ⌝ }
+    requires { ⌜ (length (now b) + 1 ≡ bodyLength 8) × (recordLength 8 ≤ length (now o)) ⌝ }
     ensures { λ _. ⌜ now (o .exit) ≡ sets (now (o .entry)) 0 (recordBytes (jobRecords r (now (b .entry)))) ⌝ }
 {
     put_byte(o, 0, format::JobRecord::KIND);
-    copies::copy68(b, 0, o, 1);
+    copies::copy64_to_72(&b[..format::JobRecord::MARK], o, 1);
     put_byte(o, J26, j26_shown(r, b[format::JobRecord::J26]));
     put_byte(o, JOB_MARK, editions::mark_of(r));
 }
 
 pub fn test_records(b: &[u8], o: &mut [u8])
-    requires { ⌜ (length (now b) ≡ 14) × (recordLength 9 ≤ length (now o)) ⌝ }
+    requires { ⌜ (length (now b) ≡ bodyLength 9) × (recordLength 9 ≤ length (now o)) ⌝ }
     ensures { λ _. ⌜ now (o .exit) ≡ sets (now (o .entry)) 0 (recordBytes (testRecords (now (b .entry)))) ⌝ }
 {
     put_byte(o, 0, format::TestRecord::KIND);
-    copies::copy14(b, 0, o, 1);
+    copies::copy8_to_16(&b[..format::TestRecord::LEN], o, 1);
 }
 
 pub fn location_records(b: &[u8], o: &mut [u8])
-    requires { ⌜ (length (now b) ≡ 23) × (recordLength 10 ≤ length (now o)) ⌝ }
+    requires { ⌜ (length (now b) ≡ bodyLength 10) × (recordLength 10 ≤ length (now o)) ⌝ }
     ensures { λ _. ⌜ now (o .exit) ≡ sets (now (o .entry)) 0 (recordBytes (locationRecords (now (b .entry)))) ⌝ }
 {
     put_byte(o, 0, format::LocationRecord::KIND);
-    copies::copy23(b, 0, o, 1);
+    copies::copy16_to_24(&b[..format::LocationRecord::LEN], o, 1);
 }
 
 // A full piece.
@@ -133,8 +136,8 @@ pub fn text_record(b: &[u8], o: &mut [u8])
     ensures { λ _. ⌜ now (o .exit) ≡ sets (now (o .entry)) 0 (recordBytes (recordOf 5 (take 20 (now (b .entry)) ++ bytes 4 (length (now (b .entry)) - 20)) ∷ [])) ⌝ }
 {
     put_byte(o, 0, format::TextRecord::KIND);
-    copies::copy20(b, 0, o, 1);
-    octets::put_u32(o, F3_LENGTH, (b.len() - 20) as u32);
+    copies::copy16_to_24(&b[..format::TextRecord::F3], o, 1);
+    octets::put_u32(o, F3_LENGTH, (b.len() - format::TextRecord::F3) as u32);
 }
 
 pub fn text_records(b: &[u8], o: &mut [u8])
@@ -142,7 +145,10 @@ pub fn text_records(b: &[u8], o: &mut [u8])
     ensures { λ _. ⌜ now (o .exit) ≡ sets (now (o .entry)) 0 (recordBytes (textRecords (now (b .entry)))) ⌝ }
 {
     text_record(b, o);
-    piece_records(&b[20..], &mut o[format::TextRecord::WHOLE..]);
+    piece_records(
+        &b[format::TextRecord::F3..],
+        &mut o[format::TextRecord::WHOLE..],
+    );
 }
 
 // The record of an opaque segment, without its pieces.

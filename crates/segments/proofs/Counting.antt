@@ -9,7 +9,7 @@ use lib.Dec.{eqb}
 use Rattle.format.specs.Packet.{Segment}
 use Rattle.format.specs.Reader.{dwellsIn}
 use Rattle.segments.specs.declared.Dwells.{Dwells}
-use Rattle.segments.specs.Walk.{noDwells, past, pastAll, Among}
+use Rattle.segments.specs.InnerWalk.{noDwells, past, pastAll, Among}
 
 -- from any segment on
 from : (d : Dwells) (ss : List Segment) → pastAll d ss .count ≡ d .count + dwellsIn ss

@@ -8,11 +8,12 @@ use lib.ListN.{length, take, drop, length-drop, length-append}
 use Rattle.octets.proofs.Parts.{tail-is}
 use Rattle.format.specs.declared.Settings.{Settings}
 use Rattle.format.specs.declared.Reading.{Reading}
-use Rattle.format.specs.Sheet.{recordLength, headerRecord, packetRecords, recordBytes}
+use Rattle.format.specs.Sheet.{headerRecord, packetRecords, recordBytes}
+use Rattle.format.specs.Lengths.{recordLength}
 use Rattle.format.specs.Reader.{Parsed, parse, parsed, readingOf, sheet}
 use Rattle.format.proofs.Acceptance.{header-sized}
 use Rattle.format.proofs.Lengths.{bytes-append, length-header}
-use Rattle.segments.specs.Walk.{CheckedAll, CheckedPacket, allBytes}
+use Rattle.segments.specs.InnerWalk.{CheckedAll, CheckedPacket, allBytes}
 
 -- the packet behind its header
 abbrev pub behind : List ℕ → List ℕ

@@ -13,7 +13,7 @@ use Rattle.format.specs.Packet.{sizeAt}
 use Rattle.format.specs.Reader.{parse}
 use Rattle.format.proofs.Rows.{segment-passes}
 use Rattle.format.proofs.Filling.{leftOver, step, handed, none-left}
-use Rattle.segments.specs.Walk.{Checked, bytesOf, CheckedAll}
+use Rattle.segments.specs.InnerWalk.{Checked, bytesOf, CheckedAll}
 use Rattle.segments.proofs.Walking.{handed-checked}
 
 -- what is known at a place of the packet; k bounds the segments that are left

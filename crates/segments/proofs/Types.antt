@@ -11,11 +11,12 @@ use lib.Seq.{sets}
 use Rattle.format.specs.declared.Reading.{Reading}
 use Rattle.format.specs.declared.Check.{Check}
 use Rattle.format.specs.declared.Check.the-variants.{Passed}
-use Rattle.format.specs.Sheet.{recordLength, pieceCount, opaqueRecords, recordBytes}
+use Rattle.format.specs.Sheet.{pieceCount, opaqueRecords, recordBytes}
+use Rattle.format.specs.Lengths.{recordLength}
 use Rattle.format.specs.Rows.{firstRow, bodyRows}
 use Rattle.format.proofs.Lengths.{recordsOf, length-segment, length-opaque}
 use Rattle.format.proofs.ByType.{opaque-are}
-use Rattle.segments.specs.Walk.{bytesOf}
+use Rattle.segments.specs.InnerWalk.{bytesOf}
 
 -- none of them, as the last arm of a match knows it
 abbrev pub Other : ℕ → Type 0

@@ -18,21 +18,22 @@ use Rattle.format.specs.declared.Reading.{Reading}
 use Rattle.format.specs.declared.Check.{Check}
 use Rattle.format.specs.declared.Check.the-variants.{Passed, Failed}
 use Rattle.format.specs.declared.Answer.the-variants.{Accepted, Refused}
-use Rattle.format.specs.Packet.{Segment, typeAt, sizeAt, bodyAt}
+use Rattle.format.specs.Packet.{Segment, typeAt, sizeAt, bodyAt, segmentAt}
 use Rattle.format.specs.Dwell.{maskOf, dwellFields, targetCount}
-use Rattle.format.specs.Sheet.{recordLength, pieceCount, segmentRecords, packetRecords, recordBytes}
+use Rattle.format.specs.Sheet.{pieceCount, segmentRecords, packetRecords, recordBytes}
+use Rattle.format.specs.Lengths.{recordLength}
 use Rattle.format.specs.Rows.{firstRow, segmentRows}
 use Rattle.format.specs.Reader.{Parsed, parse, targetsIn}
 use Rattle.format.proofs.Types.{by-number}
 use Rattle.format.proofs.Rows.{segment-passes}
 use Rattle.format.proofs.Segments.{length-body}
 use Rattle.format.proofs.Lengths.{bytes-append, recordsOf, length-segment}
-use Rattle.format.proofs.Turns.{segmentAt, parse-good, parse-bad, parse-end}
+use Rattle.format.proofs.Turns.{parse-good, parse-bad, parse-end}
 use Rattle.format.proofs.Filling.{Handed, handedBody}
 use Rattle.segments.specs.declared.Dwells.{Dwells}
 use Rattle.segments.specs.declared.Found.{Found}
 use Rattle.segments.specs.declared.Found.the-variants.{Good, Bad}
-use Rattle.segments.specs.Walk.{Checked, bytesOf, targetsOfType, foundBy, foundAt, past, pastAll, answerFrom}
+use Rattle.segments.specs.InnerWalk.{Checked, bytesOf, targetsOfType, foundBy, foundAt, past, pastAll, answerFrom}
 
 -- what is handed on of a packet's segment to which no row applies is checked
 pub handed-checked : (r : Reading) (s t : List ℕ) (at size : ℕ) → length s ≤ 65536 → Handed r s t at size → Checked r (getD t 0 0) (handedBody r s t at size)

@@ -4,10 +4,11 @@ ghost use Prim.Native.Nat.{_*_, _≤_};
 ghost use lib.ListN.{length};
 ghost use Rattle.format.specs.declared.Check.the-variants.{Passed};
 ghost use Rattle.format.specs.Packet.{isKnown, typeAt, sizeAt, bodyAt};
-ghost use Rattle.format.specs.Sheet.{pieceCount, recordLength};
+ghost use Rattle.format.specs.Sheet.{pieceCount};
+ghost use Rattle.format.specs.Lengths.{recordLength};
 ghost use Rattle.format.specs.Rows.{firstRow, bodyRows, segmentRows};
 ghost use Rattle.format.specs.Reader.{parse};
-ghost use Rattle.segments.specs.Walk.{Checked, bytesOf, targetsOfType, foundAt, noDwells, past, Among, answerFrom};
+ghost use Rattle.segments.specs.InnerWalk.{Checked, bytesOf, targetsOfType, foundAt, noDwells, past, Among, answerFrom};
 use format::Answer;
 use format::Check;
 
@@ -29,8 +30,8 @@ fn body_check(r: format::Reading, segment_type: u8, b: &[u8]) -> Check
         2 => dwell_checks::dwell_check(r, b),
         5 => checks::job_check(r, b),
         6 => checks::text_check(b),
-        10 => checks::kept_check(14, b),
-        13 => checks::kept_check(23, b),
+        10 => checks::kept_check(format::TestRecord::LEN, b),
+        13 => checks::kept_check(format::LocationRecord::LEN, b),
         _ => Check::Passed,
     }
 }
@@ -65,11 +66,11 @@ pub fn segment_check(r: format::Reading, l: &[u8]) -> Check
 }
 
 // The bytes of the records that carry n bytes of text or of an opaque body.
-fn pieces_length(n: usize) -> usize
+pub fn pieces_length(n: usize) -> usize
     requires { ⌜ n ≤ 65536 ⌝ }
     ensures { λ r. ⌜ r ≡ pieceCount n * recordLength 6 ⌝ }
 {
-    (n + 31) / 32 * format::PieceRecord::WHOLE
+    (n + format::PieceRecord::FULL - 1) / format::PieceRecord::FULL * format::PieceRecord::WHOLE
 }
 
 // The targets of a segment, by its type.
@@ -94,7 +95,7 @@ pub fn records_length(r: format::Reading, segment_type: u8, b: &[u8]) -> usize
         2 => format::DwellRecord::WHOLE
             + targets_in(r, segment_type, b) * format::TargetRecord::WHOLE,
         5 => format::JobRecord::WHOLE,
-        6 => format::TextRecord::WHOLE + pieces_length(b.len() - 20),
+        6 => format::TextRecord::WHOLE + pieces_length(b.len() - format::TextRecord::F3),
         10 => format::TestRecord::WHOLE,
         13 => format::LocationRecord::WHOLE,
         _ => format::OpaqueRecord::WHOLE + pieces_length(b.len()),

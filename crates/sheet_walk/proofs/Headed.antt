@@ -7,7 +7,7 @@ use mathlib.Core.List.{List}
 use borrow.Author.Tests.{ne-eqb}
 use lib.ListN.{drop}
 use Rattle.format.specs.Writer.{listed, noHeader, isHeaded}
-use Rattle.sheet_walk.specs.Shape.{isSheet, isRest}
+use Rattle.sheet_walk.specs.InnerShape.{isSheet, isRest}
 use Rattle.sheet_walk.proofs.Places.{WholeAt}
 
 -- where a whole record is

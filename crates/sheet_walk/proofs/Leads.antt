@@ -17,7 +17,7 @@ use Rattle.mask.proofs.FullWidth.{length-announced}
 use Rattle.format.specs.Dwell.{targetLength}
 use Rattle.format.specs.Sheet.{bodyLengths, bodyLength}
 use Rattle.format.specs.Writer.{calledFor, typeOf, given}
-use Rattle.sheet_walk.specs.Shape.{eachTakes, leadOf}
+use Rattle.sheet_walk.specs.InnerShape.{eachTakes, leadOf}
 
 -- the longest body is a dwell's: computed for every kind
 pub body-bound : (kind : ℕ) → bodyLength kind ≤ 87

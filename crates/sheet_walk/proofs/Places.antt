@@ -2,20 +2,24 @@
 -- Assumes nothing.
 use mathlib.Core.Path.{_≡_, refl, sym, ap, _∙_}
 use mathlib.Core.Bool.{Bool, true, false, _&&_, cond}
-use mathlib.Core.List.{List, []}
+use mathlib.Core.List.{List, [], _∷_}
+use mathlib.Core.Logic.{inl, inr}
 use Prim.Native.Nat.{ℕ, _+_, _-_, _≤_, _<_}
 use native.Mathlib.Omega.{arith}
 use borrow.Author.Tests.{ltb-true, ltb-false, leb-true, leb-false}
+use types.Run.{OneOf}
+use denote.Enum.Declared.{tagOf}
 use lib.Dec.{ltb, leb}
 use lib.ListN.{length, getD, take, drop}
 use Rattle.octets.proofs.Parts.{part-is, length-part}
 use Rattle.format.specs.Sheet.{Record, bodyLength}
-use Rattle.format.specs.Writer.{listed}
+use Rattle.format.specs.Writer.{Listed, listed}
 use Rattle.format.proofs.Records.{Formed}
 use Rattle.format.proofs.Listing.{before, listed-more, listed-none, listed-cut, listed-end}
 use Rattle.sheet_walk.specs.declared.Place.{Place}
 use Rattle.sheet_walk.specs.declared.Place.the-variants.{Whole, End, Cut}
-use Rattle.sheet_walk.specs.Shape.{placeAt}
+use Rattle.sheet_walk.specs.InnerShape.{placeAt}
+use Rattle.sheet_walk.proofs.Place.{the-type}
 
 -- the record from a place up to another, as code cuts its body out
 abbrev pub cutAt : List ℕ → ℕ → ℕ → ℕ → Record
@@ -68,3 +72,10 @@ pub at-place : (x : List ℕ) (at : ℕ) {p q : Place} → p ≡ placeAt x at �
 at-place x at {p} {q} e f =
     let g : placeAt x at ≡ q = sym e ∙ f in
     rw g at (known x at)
+
+-- where code was told that there is no whole record, there is none
+pub none-at : (x : List ℕ) (at : ℕ) (p : Place) → p ≡ placeAt x at → OneOf (1 ∷ 2 ∷ []) (tagOf the-type p) → listed (drop at x) .records ≡ []
+none-at x at (Whole kind end) e (inl told) = absurd (omega arith)
+none-at x at (Whole kind end) e (inr told) = absurd (omega arith)
+none-at x at End e told = ap (λ (l : Listed). l .records) (at-place x at e refl)
+none-at x at Cut e told = ap (λ (l : Listed). l .records) (at-place x at e refl)

@@ -6,7 +6,7 @@ ghost use lib.Dec.{eqb};
 ghost use lib.ListN.{length, drop};
 ghost use Rattle.format.specs.Sheet.{bodyLength};
 ghost use Rattle.format.specs.Writer.{listed, due, share as shareOf, carried as carriedBy};
-ghost use Rattle.sheet_walk.specs.Shape.{placeAt, isRest, leadOf, sizeBy, Bounded};
+ghost use Rattle.sheet_walk.specs.InnerShape.{placeAt, isRest, leadOf, sizeBy, Bounded};
 
 // The kinds are the numbers below this one, without 0.
 const KINDS: u8 = format::LocationRecord::KIND + 1;

@@ -19,7 +19,7 @@ use Rattle.format.specs.Sheet.{Record, bodyLength}
 use Rattle.format.specs.Writer.{Due, due, calledFor, isFollower, share, carried, isComplete, givenBehind}
 use Rattle.format.proofs.Records.{Formed}
 use Rattle.format.proofs.Followers as complete
-use Rattle.sheet_walk.specs.Shape.{eachTakes}
+use Rattle.sheet_walk.specs.InnerShape.{eachTakes}
 
 -- what is due where a record began the segment and so much of what it calls for is left
 abbrev pub dueOf : Record → ℕ → Due

@@ -15,8 +15,8 @@ use Rattle.format.specs.Sheet.{Record}
 use Rattle.format.specs.Writer.{calledFor, isFollower, share, isComplete, typeOf, given, givenBehind, Regrouped, regroup, segmentsBytes}
 use Rattle.format.proofs.Records.{AllFormed}
 use Rattle.format.proofs.Followers.{follower-regrouped, begins-regrouped}
-use Rattle.sheet_walk.specs.Shape.{eachTakes}
-use Rattle.spelling.specs.Spelling.{sizeOf, addedSize, begun, spelt, speltAll}
+use Rattle.sheet_walk.specs.InnerShape.{eachTakes}
+use Rattle.spelling.specs.InnerSpelling.{sizeOf, addedSize, begun, spelt, speltAll}
 use Rattle.spelling.proofs.Followers.{dueOf, Follower, First, follows, begins, first, shared}
 
 -- the sum of the sizes of the segments that records begin

@@ -15,12 +15,13 @@ use Rattle.octets.specs.Layout.{total}
 use Rattle.octets.proofs.Laws.{length-bytes, then}
 use Rattle.mask.specs.Fields.{announcedLength, announcedFields, dwellWidths, targetWidths}
 use Rattle.mask.proofs.FullWidth.{length-announced}
-use Rattle.format.specs.Sheet.{Record, bodyLength, recordLength}
+use Rattle.format.specs.Sheet.{Record, bodyLength}
+use Rattle.format.specs.Lengths.{recordLength}
 use Rattle.format.specs.Writer.{given, givenBehind}
 use Rattle.sheet_walk.specs.declared.Lead.{Lead}
-use Rattle.sheet_walk.specs.Shape.{leadOf, sizeBy}
+use Rattle.sheet_walk.specs.InnerShape.{leadOf, sizeBy}
 use Rattle.sheet_walk.proofs.Leads.{dwell-given}
-use Rattle.spelling.specs.Spelling.{sizeOf, begun, spelt, recordIn, leading}
+use Rattle.spelling.specs.InnerSpelling.{sizeOf, begun, spelt, recordIn, leading}
 
 -- ---- what a record gives that begins a segment
 

@@ -15,14 +15,14 @@ use Rattle.format.proofs.Listing.{listed-formed, before}
 use Rattle.sheet_walk.specs.declared.Place.{Place}
 use Rattle.sheet_walk.specs.declared.Place.the-variants.{Whole, End, Cut}
 use Rattle.sheet_walk.specs.declared.Lead.{Lead}
-use Rattle.sheet_walk.specs.Shape.{placeAt, isSheet, isRest, Shaped, eachTakes, leadOf, sizeBy}
+use Rattle.sheet_walk.specs.InnerShape.{placeAt, isSheet, isRest, Shaped, eachTakes, leadOf, sizeBy}
 use Rattle.sheet_walk.proofs.Places.{cutAt, WholeAt, Known, at-place}
 use Rattle.sheet_walk.proofs.Headed.{header-first, other-first, header-again}
 use Rattle.spelling.specs.declared.Survey.{Survey}
 use Rattle.spelling.specs.declared.Survey.the-variants.{Unlisted, Incomplete, Spells}
 use Rattle.spelling.specs.declared.Counted.{Counted}
 use Rattle.spelling.specs.declared.Counted.the-variants.{Then, Misplaced}
-use Rattle.spelling.specs.Spelling.{sizeOf, speltAll, capped, headerEnd, surveyed, counted}
+use Rattle.spelling.specs.InnerSpelling.{sizeOf, speltAll, capped, headerEnd, surveyed, counted}
 use Rattle.spelling.proofs.Followers.{by-call}
 use Rattle.spelling.proofs.Regrouped.{sizes, Told, told}
 

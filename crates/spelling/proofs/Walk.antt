@@ -17,9 +17,9 @@ use Rattle.format.specs.Writer.{Listed, listed, due, calledFor, isFollower, isC
 use Rattle.format.proofs.Records.{Formed, AllFormed}
 use Rattle.format.proofs.Rows.{neither}
 use Rattle.format.proofs.Listing.{listed-formed}
-use Rattle.sheet_walk.specs.Shape.{Shaped}
+use Rattle.sheet_walk.specs.InnerShape.{Shaped}
 use Rattle.sheet_walk.proofs.Places.{cutAt, WholeAt}
-use Rattle.spelling.specs.Spelling.{spelt, leaderBehind, speltAll, recordIn, leading, Spellable}
+use Rattle.spelling.specs.InnerSpelling.{spelt, leaderBehind, speltAll, recordIn, leading, Spellable}
 use Rattle.spelling.proofs.Followers.{dueOf, First, follows, begins, first}
 use Rattle.spelling.proofs.Regrouped.{sizes, told}
 use Rattle.spelling.proofs.Surveyed.{headed, complete-behind, spell-is}

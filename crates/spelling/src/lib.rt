@@ -8,9 +8,9 @@ ghost use lib.Seq.{sets};
 ghost use Rattle.octets.specs.Octets.{bytes};
 ghost use Rattle.format.specs.Sheet.{bodyLength};
 ghost use Rattle.format.specs.Writer.{listed, due, given as givenOf, spell as spellSheet};
-ghost use Rattle.sheet_walk.specs.Shape.{placeAt, isRest, Shaped};
+ghost use Rattle.sheet_walk.specs.InnerShape.{placeAt, isRest, Shaped};
 ghost use Rattle.spelling.specs.declared.Survey.the-variants.{Unlisted, Incomplete};
-ghost use Rattle.spelling.specs.Spelling.{begun, spelt, recordIn, leading, Begins, Spellable, headerEnd, surveyed, capped as cappedAt, counted};
+ghost use Rattle.spelling.specs.InnerSpelling.{begun, spelt, recordIn, leading, Begins, Spellable, headerEnd, surveyed, capped as cappedAt, counted};
 use sheet_walk::Place;
 
 // What rows 17 and 18 say of a sheet and, where neither applies, how long its packet is.

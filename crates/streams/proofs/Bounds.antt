@@ -10,7 +10,7 @@ use Rattle.streams.specs.declared.Call.{Call}
 use Rattle.streams.specs.declared.Call.the-variants.{Moved}
 use Rattle.streams.specs.declared.Got.{Got}
 use Rattle.streams.specs.declared.Got.the-variants.{Bytes, End, Failed}
-use Rattle.streams.specs.Within.{CallWithin, GotWithin}
+use Rattle.streams.specs.InnerWithin.{CallWithin, GotWithin}
 
 pub moved-within : {n k : ℕ} {r : Call} → r ≡ Moved k → CallWithin n r → k ≤ n
 moved-within {n} e w = subst (λ (r : Call). CallWithin n r) e w

@@ -3,7 +3,7 @@
 // interrupts is made again.
 ghost use Prim.Native.Nat.{_≤_};
 ghost use lib.ListN.{length};
-ghost use Rattle.streams.specs.Within.{CallWithin, GotWithin, InputWithin};
+ghost use Rattle.streams.specs.InnerWithin.{CallWithin, GotWithin, InputWithin};
 
 // What one read gave.
 pub enum Got {

@@ -17,8 +17,8 @@ use Rattle.octets.proofs.Layouts.{pad-take}
 use Rattle.mask.specs.Fields.{announced, announcedLength, fullFields}
 use Rattle.mask.proofs.FullWidth.{length-full, announced-append, full-append}
 use Rattle.mask.proofs.Bit.{set-and, set-none}
-use Rattle.unpack.specs.Laid.{Room, Laid}
-use Rattle.unpack.specs.Together.{allSet, noneSet}
+use Rattle.unpack.specs.InnerLaid.{Room, Laid}
+use Rattle.unpack.proofs.Together.{allSet, noneSet}
 
 -- ---- lines
 

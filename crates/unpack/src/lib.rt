@@ -5,7 +5,7 @@ ghost use mathlib.Core.List.{[], _∷_};
 ghost use Prim.Native.Nat.{_≤_};
 ghost use lib.Bits.{bitAnd};
 ghost use lib.Dec.{eqb};
-ghost use Rattle.unpack.specs.Laid.{Room, Laid};
+ghost use Rattle.unpack.specs.InnerLaid.{Room, Laid};
 
 pub fn field1(s: &[u8], p: usize, mask: u64, n: usize, o: &mut [u8], q: usize) -> usize
     requires { ⌜ (2 ≤ n) × (n ≤ 65) × Room mask n (1 ∷ []) (now s) p (now o) q ⌝ }

@@ -3,9 +3,10 @@
 use mathlib.Core.Path.{_≡_, refl}
 use mathlib.Core.Bool.{true}
 use Prim.Native.Nat.{ℕ}
-use Rattle.mask.specs.Fields.{widths}
-use Rattle.mask.specs.Mask.{isRequired, Required}
-use Rattle.unpack.specs.Together.{allSet}
+use Rattle.mask.specs.InnerFields.{widths}
+use Rattle.mask.specs.Mask.{isRequired}
+use Rattle.mask.specs.InnerFields.{Required}
+use Rattle.unpack.proofs.Together.{allSet}
 
 pub all-2-to-9 : (mask : ℕ) → Required mask → allSet mask 2 (widths 2 9) ≡ true
 unfolding isRequired

@@ -1,7 +1,7 @@
 // D2 to D31 of a dwell at full widths: from p on in s, to q on in o. Each function answers where the next field begins in s.
-ghost use Rattle.mask.specs.Fields.{widths, dwellWidths};
-ghost use Rattle.mask.specs.Mask.{Required};
-ghost use Rattle.unpack.specs.Laid.{Room, Laid};
+ghost use Rattle.mask.specs.Fields.{dwellWidths};
+ghost use Rattle.mask.specs.InnerFields.{widths, Required};
+ghost use Rattle.unpack.specs.InnerLaid.{Room, Laid};
 
 // D2 to D9, which every mask without fault announces.
 fn d2_to_9(s: &[u8], p: usize, mask: u64, o: &mut [u8], q: usize) -> usize

@@ -1,7 +1,8 @@
 // D32.1 to D32.18 of a target at full widths: from p on in s, to q on in o. Each function answers where the next field begins in s.
 // Fields that mostly come together are copied as one block where the mask has them all, and cleared as one where it has none.
-ghost use Rattle.mask.specs.Fields.{d32, widths, targetWidths};
-ghost use Rattle.unpack.specs.Laid.{Room, Laid};
+ghost use Rattle.mask.specs.Fields.{d32, targetWidths};
+ghost use Rattle.mask.specs.InnerFields.{widths};
+ghost use Rattle.unpack.specs.InnerLaid.{Room, Laid};
 
 // D32.2 and D32.3.
 fn places(s: &[u8], p: usize, mask: u64, o: &mut [u8], q: usize) -> usize

@@ -3,17 +3,18 @@
 use Prim.Native.Nat.{ℕ}
 use mathlib.Core.Path.{_≡_, refl, sym, ap, ap₂, _∙_}
 use mathlib.Core.Bool.{Bool, true, false, _&&_, cond, and-false}
-use mathlib.Core.List.{List}
+use mathlib.Core.List.{List, []}
 use lib.ListN.{length}
 use Rattle.format.specs.Edition.{asEdition}
 use Rattle.format.specs.declared.Check.the-variants.{Passed, Failed}
 use Rattle.format.specs.declared.Answer.{Answer}
 use Rattle.format.specs.declared.Answer.the-variants.{Accepted, Refused}
-use Rattle.format.specs.Reader.{sheet, readingAnswer}
+use Rattle.format.specs.Answer.{Outcome, outcome}
+use Rattle.format.specs.Reader.{sheet, readingAnswer, check}
 use Rattle.format.specs.Writer.{spell, isAccepted, isSame, readsBack, writerAnswer}
 use Rattle.format.proofs.Acceptance.{same-counts, same-length, Acceptable, answerOf, accepted-only}
 use Rattle.format.proofs.Sameness.{same-lists, same-not}
-use Rattle.segments.specs.Walk.{CheckedPacket}
+use Rattle.segments.specs.InnerWalk.{CheckedPacket}
 
 -- a sheet just as long as is needed says the same of reading back as one as long as x: where the lengths differ, the packet's sheet is not x
 back-whole : (packet x : List ℕ) → readsBack packet x ≡ (isAccepted (readingAnswer (asEdition 3) packet (length (sheet (asEdition 3) packet))) && isSame (sheet (asEdition 3) packet) x)
@@ -35,12 +36,17 @@ back-whole packet x = go (isSame (sheet (asEdition 3) packet) x) refl
 abbrev pub backAnswer : List ℕ → Answer
 backAnswer x = writerAnswer x (cond (readsBack (spell x) x) Passed (Failed 19 0))
 
--- ---- the packet that x spells, and the answer of its rows
+-- ---- the packet that x spells, and the outcome of its rows
 
-module _ (packet x : List ℕ) (p : packet ≡ spell x) (a : Answer) (h : a ≡ readingAnswer (asEdition 3) packet (length (sheet (asEdition 3) packet))) where
+module _ (packet x : List ℕ) (p : packet ≡ spell x) (a : Answer) (told : outcome a [] ≡ check (asEdition 3) packet) where
+  -- by itself
+  answered : a ≡ readingAnswer (asEdition 3) packet (length (sheet (asEdition 3) packet))
+  unfolding check
+  answered = ap (λ (o : Outcome). o .answer) told
+
   -- the answer and the sheet decide
   back-by : readsBack (spell x) x ≡ (isAccepted a && isSame (sheet (asEdition 3) packet) x)
-  back-by = ap (λ (l : List ℕ). readsBack l x) (sym p) ∙ back-whole packet x ∙ ap (λ (b : Answer). isAccepted b && isSame (sheet (asEdition 3) packet) x) (sym h)
+  back-by = ap (λ (l : List ℕ). readsBack l x) (sym p) ∙ back-whole packet x ∙ ap (λ (b : Answer). isAccepted b && isSame (sheet (asEdition 3) packet) x) (sym answered)
 
   -- a packet that does not read back to x is row 19's
   back-fails : (isAccepted a && isSame (sheet (asEdition 3) packet) x) ≡ false → Refused 19 0 0 ≡ backAnswer x
@@ -53,7 +59,7 @@ module _ (packet x : List ℕ) (p : packet ≡ spell x) (a : Answer) (h : a ≡ 
   module _ (s d t n : ℕ) (e : a ≡ Accepted s d t n) where
     -- no row applies to it, and the counts are those of its segments
     accepted : Acceptable (asEdition 3) packet (length (sheet (asEdition 3) packet)) × (answerOf (asEdition 3) packet ≡ Accepted s d t n)
-    accepted = accepted-only (asEdition 3) packet (length (sheet (asEdition 3) packet)) s d t n (sym h ∙ e)
+    accepted = accepted-only (asEdition 3) packet (length (sheet (asEdition 3) packet)) s d t n (sym answered ∙ e)
 
     -- the length that is answered is the sheet's
     answered-length : length (sheet (asEdition 3) packet) ≡ n

@@ -20,8 +20,8 @@ use Rattle.format.specs.Rows.{row, firstRow}
 use Rattle.format.specs.Writer.{listed, due, isComplete, spell, readsBack, sheetRows, writerRows, writerAnswer, sheetAnswer, writingAnswer, write}
 use Rattle.format.proofs.Rows.{orElse, first-append}
 use Rattle.format.proofs.Acceptance.{no-refusal, same-length}
-use Rattle.sheet_walk.specs.Shape.{isSheet, Shaped}
-use Rattle.writer.specs.Placed.{placed, Settled}
+use Rattle.sheet_walk.specs.InnerShape.{isSheet, Shaped}
+use Rattle.writer.specs.InnerPlaced.{placed, Settled}
 use Rattle.writer.proofs.ReadingBack.{backAnswer}
 
 -- ---- rows 17 to 19

@@ -1,18 +1,17 @@
 // The writer: a sheet of any bytes, back to the packet that reads to it.
 ghost use mathlib.Core.Path.{_≡_};
 ghost use mathlib.Core.Bool.{cond};
+ghost use mathlib.Core.List.{[]};
 ghost use Prim.Native.Nat.{_≤_};
 ghost use lib.ListN.{length};
 ghost use Rattle.format.specs.declared.Check.the-variants.{Passed, Failed};
 ghost use Rattle.format.specs.declared.Answer.the-variants.{Refused};
 ghost use Rattle.format.specs.Answer.{outcome};
-ghost use Rattle.format.specs.Writer.{spell, readsBack, writerAnswer, sheetAnswer, write as writeOutcome};
-ghost use Rattle.readback.specs.Window.{windowLength};
-ghost use Rattle.sheet_walk.specs.Shape.{Shaped};
-ghost use Rattle.spelling.specs.Spelling.{capped};
-ghost use Rattle.writer.specs.Placed.{placed, Spells, Settled};
+ghost use Rattle.format.specs.Writer.{spell, readsBack, writerAnswer, check as checkOutcome, write as writeOutcome};
+ghost use Rattle.sheet_walk.specs.InnerShape.{Shaped};
+ghost use Rattle.spelling.specs.InnerSpelling.{capped};
+ghost use Rattle.writer.specs.InnerPlaced.{placed, Spells, Settled};
 use format::Answer;
-use readback::WINDOW;
 use spelling::Survey;
 
 fn refused(number: usize) -> Answer
@@ -23,16 +22,14 @@ fn refused(number: usize) -> Answer
 
 // Row 19 of the packet that x spells: it must read to x. Only the packet's rows and the length of its sheet are worked out first; the
 // sheet is then compared with x a few records at a time.
-fn read_back(packet: &[u8], x: &[u8], window: &mut [u8]) -> Answer
-    requires { ⌜ (now packet ≡ spell (now x)) × (windowLength ≤ length (now window)) ⌝ }
+fn read_back(packet: &[u8], x: &[u8]) -> Answer
+    requires { ⌜ now packet ≡ spell (now x) ⌝ }
     ensures { λ a. ⌜ a ≡ writerAnswer (now (x .entry)) (cond (readsBack (spell (now (x .entry))) (now (x .entry))) Passed (Failed 19 0)) ⌝ }
 {
     match reader::check(3, packet) {
         Answer::Refused(..) => refused(19),
         Answer::Accepted(segments, dwells, targets, length) => {
-            if length == x.len()
-                && readback::is_sheet(format::Settings { edition: 3 }, packet, x, window)
-            {
+            if length == x.len() && readback::is_sheet(format::Settings { edition: 3 }, packet, x) {
                 Answer::Accepted(segments, dwells, targets, packet.len())
             } else {
                 refused(19)
@@ -56,13 +53,13 @@ fn place(a: Answer, packet: &[u8], o: &mut [u8])
 }
 
 // A sheet of the right shape that spells n bytes: spelt into a lent array, and read back.
-fn write_through(x: &[u8], n: usize, spelt: &mut [u8], window: &mut [u8], o: &mut [u8]) -> Answer
-    requires { ⌜ Spells (now x) n × (n ≤ 65536) × (n ≤ length (now spelt)) × (windowLength ≤ length (now window)) ⌝ }
+fn write_through(x: &[u8], n: usize, spelt: &mut [u8], o: &mut [u8]) -> Answer
+    requires { ⌜ Spells (now x) n × (n ≤ 65536) × (n ≤ length (now spelt)) ⌝ }
     ensures { λ a. ⌜ Settled (now (x .entry)) (now (o .entry)) a (now (o .exit)) ⌝ }
 {
     spelling::spell(x, spelt);
     let packet = &spelt[..n];
-    let a = read_back(packet, x, window);
+    let a = read_back(packet, x);
     place(a, packet, o);
     a
 }
@@ -79,8 +76,7 @@ fn write_small(x: &[u8], n: usize, o: &mut [u8]) -> Answer
     ensures { λ a. ⌜ Settled (now (x .entry)) (now (o .entry)) a (now (o .exit)) ⌝ }
 {
     let mut spelt = [0u8; SMALL];
-    let mut window = [0u8; WINDOW];
-    write_through(x, n, &mut spelt, &mut window, o)
+    write_through(x, n, &mut spelt, o)
 }
 
 fn write_middle(x: &[u8], n: usize, o: &mut [u8]) -> Answer
@@ -88,8 +84,7 @@ fn write_middle(x: &[u8], n: usize, o: &mut [u8]) -> Answer
     ensures { λ a. ⌜ Settled (now (x .entry)) (now (o .entry)) a (now (o .exit)) ⌝ }
 {
     let mut spelt = [0u8; MIDDLE];
-    let mut window = [0u8; WINDOW];
-    write_through(x, n, &mut spelt, &mut window, o)
+    write_through(x, n, &mut spelt, o)
 }
 
 fn write_large(x: &[u8], n: usize, o: &mut [u8]) -> Answer
@@ -97,8 +92,7 @@ fn write_large(x: &[u8], n: usize, o: &mut [u8]) -> Answer
     ensures { λ a. ⌜ Settled (now (x .entry)) (now (o .entry)) a (now (o .exit)) ⌝ }
 {
     let mut spelt = [0u8; LARGE];
-    let mut window = [0u8; WINDOW];
-    write_through(x, n, &mut spelt, &mut window, o)
+    write_through(x, n, &mut spelt, o)
 }
 
 // Lent as an array, whose type tells its length: of one so long as a slice, the prover does not find it.
@@ -106,8 +100,7 @@ fn longest_in(x: &[u8], n: usize, spelt: &mut [u8; format::LONGEST_PACKET], o: &
     requires { ⌜ Spells (now x) n × (n ≤ 65536) ⌝ }
     ensures { λ a. ⌜ Settled (now (x .entry)) (now (o .entry)) a (now (o .exit)) ⌝ }
 {
-    let mut window = [0u8; WINDOW];
-    write_through(x, n, spelt, &mut window, o)
+    write_through(x, n, spelt, o)
 }
 
 fn write_longest(x: &[u8], n: usize, o: &mut [u8]) -> Answer
@@ -151,7 +144,7 @@ fn write_where_room(x: &[u8], o: &mut [u8]) -> Answer
 
 // Rows 17 to 19 of a sheet by itself: whether a reading gives it, and the counts and the length of its packet.
 pub fn check(x: &[u8]) -> Answer
-    ensures { λ a. ⌜ a ≡ sheetAnswer (now (x .entry)) ⌝ }
+    ensures { λ a. ⌜ outcome a [] ≡ checkOutcome (now (x .entry)) ⌝ }
 {
     let mut none = [0u8; 1];
     write_where_room(x, &mut none)

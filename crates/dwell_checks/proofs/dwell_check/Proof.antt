@@ -9,7 +9,8 @@ use borrow.Author.Tests.{lt-ltb, le-ltb, eq-eqb, ne-eqb}
 use denote.Ref.{now}
 use lib.ListN.{drop}
 use Rattle.mask.specs.Fields.{announced, announcedLength, dwellWidths}
-use Rattle.mask.specs.Mask.{Required, lowestFault, newInMask}
+use Rattle.mask.specs.Mask.{lowestFault, newInMask}
+use Rattle.mask.specs.InnerFields.{Required}
 use Rattle.mask.proofs.Unfaulted.{required-announced}
 use Rattle.format.specs.declared.Check.{Check}
 use Rattle.format.specs.Packet.{s2}

@@ -3,7 +3,7 @@
 use borrow.Author.Needs.{needs}
 use mathlib.Core.Path.{sym, ap, _∙_}
 use mathlib.Core.Bool.{Bool, _||_}
-use Rattle.position.specs.Always.{isAlwaysLatitude}
+use Rattle.position.specs.InnerAlways.{isAlwaysLatitude}
 use Rattle.dwell_checks.proofs.is_always_latitude.Statement.{statement}
 use Rattle.dwell_checks.proofs.is_always_latitude.Tie as tie
 

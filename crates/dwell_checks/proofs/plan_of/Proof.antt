@@ -4,7 +4,7 @@ use borrow.Author.Needs.{needs}
 use mathlib.Core.Path.{ap, subst}
 use Prim.Native.Nat.{ℕ, _+_}
 use native.Mathlib.Omega.{arith}
-use Rattle.mask.specs.Mask.{Required}
+use Rattle.mask.specs.InnerFields.{Required}
 use Rattle.dwell_checks.proofs.Numbers.{required-length}
 use Rattle.dwell_checks.proofs.plan_of.Statement.{statement}
 use Rattle.dwell_checks.proofs.plan_of.Tie as tie

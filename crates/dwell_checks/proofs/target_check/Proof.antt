@@ -13,7 +13,8 @@ use mir.Syntax.{w16}
 use mir.Val.{toZ, ofZ}
 use mir.Facts.{toZ-ofZ}
 use denote.Ref.{now}
-use Rattle.mask.specs.Fields.{announcedLength, widths}
+use Rattle.mask.specs.Fields.{announcedLength}
+use Rattle.mask.specs.InnerFields.{widths}
 use Rattle.mask.proofs.FullWidth.{announced-append}
 use Rattle.format.specs.declared.Check.the-variants.{Passed, Failed}
 use Rattle.format.specs.Dwell.{targetFields, D32, D32±}

@@ -7,11 +7,12 @@ use lib.ListN.{length}
 use native.Mathlib.Omega.{arith}
 use denote.Ref.{now}
 use Rattle.format.specs.Dwell.{maskOf}
-use Rattle.format.specs.Sheet.{recordLength, targetRecords, recordBytes}
+use Rattle.format.specs.Sheet.{targetRecords, recordBytes}
+use Rattle.format.specs.Lengths.{recordLength}
 use Rattle.records.proofs.Laid.{part-laid}
 use Rattle.format.proofs.Dwells.{IsDwell, is-dwell}
 use Rattle.dwell_checks.specs.declared.Plan.{Plan}
-use Rattle.dwell_checks.specs.Plan.{Headed}
+use Rattle.dwell_checks.specs.InnerPlan.{Headed}
 use Rattle.dwell_checks.proofs.Plans.{headed, start-within, targets-stand, targets-pass}
 use Rattle.dwell_records.proofs.Dwells.{dwell-with-targets}
 use borrow.Author.Needs.{needs}

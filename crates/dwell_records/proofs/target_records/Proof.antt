@@ -10,7 +10,8 @@ use lib.Seq.{sets}
 use borrow.Author.Needs.{needs}
 use Rattle.octets.proofs.Parts.{tail-is}
 use Rattle.format.specs.declared.Check.the-variants.{Passed}
-use Rattle.format.specs.Sheet.{recordLength, targetRecord, targetRecords, recordBytes}
+use Rattle.format.specs.Sheet.{targetRecord, targetRecords, recordBytes}
+use Rattle.format.specs.Lengths.{recordLength}
 use Rattle.format.specs.Rows.{firstRow, targetsRows}
 use Rattle.dwell_checks.proofs.Turns.{room, next-place}
 use Rattle.records.proofs.Laid.{part-laid}

@@ -5,8 +5,8 @@ use Prim.Native.Nat.{_-_}
 use mathlib.Core.Path.{refl}
 use denote.Ref.{now}
 use lib.ListN.{length}
-use Rattle.sheet_walk.proofs.Places.{WholeAt, at-place}
-use Rattle.filling.proofs.Walk.{none-at, over-end, over-none, Filled, left-as-is, turn}
+use Rattle.sheet_walk.proofs.Places.{WholeAt, at-place, none-at}
+use Rattle.filling.proofs.Walk.{filled-end, given-end, Filled, left-as-is, turn}
 use Rattle.filling.proofs.fill_in.Statement.{statement}
 use Rattle.filling.proofs.fill_in.Tie as tie
 
@@ -20,13 +20,13 @@ returns : tie.Need-returns Inv-loop μ-loop
 returns c =
     let found = c .before in
     let l = found .before .before .loop in
-    left-as-is (l .inv) (over-end _ _ (none-at (l .older) (l .at) _ (found .record-at .ensures) (c .match .keys2)))
+    left-as-is (l .inv) (filled-end _ _ (none-at (l .older) (l .at) _ (found .record-at .ensures) (c .match .keys2)))
 
 returns-2 : tie.Need-returns-2 Inv-loop μ-loop
 returns-2 c =
     let found = c .before in
     let l = found .before .before .before .before .before .before .loop in
-    left-as-is (l .inv) (over-none _ _ (none-at _ (l .from) _ (found .record-at2 .ensures) (c .match2 .keys2)))
+    left-as-is (l .inv) (given-end _ _ (none-at _ (l .from) _ (found .record-at2 .ensures) (c .match2 .keys2)))
 
 -- in a turn that goes on, a whole record is at each place
 here : (c : tie.After-known-told2 Inv-loop μ-loop)

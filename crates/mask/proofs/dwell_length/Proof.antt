@@ -3,7 +3,8 @@
 use borrow.Author.Needs.{needs}
 use native.Mathlib.Omega.{arith}
 use lib.Dec.{lit≤}
-use Rattle.mask.specs.Fields.{announcedLength, widths}
+use Rattle.mask.specs.Fields.{announcedLength}
+use Rattle.mask.specs.InnerFields.{widths}
 use Rattle.mask.proofs.Fours.{four-fields}
 use Rattle.mask.proofs.dwell_length.Statement.{statement}
 use Rattle.mask.proofs.dwell_length.Tie as tie

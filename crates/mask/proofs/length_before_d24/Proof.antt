@@ -4,7 +4,8 @@ use borrow.Author.Needs.{needs}
 use native.Mathlib.Omega.{arith}
 use lib.Dec.{lit≤}
 use Rattle.octets.specs.Layout.{total}
-use Rattle.mask.specs.Fields.{announcedLength, widths}
+use Rattle.mask.specs.Fields.{announcedLength}
+use Rattle.mask.specs.InnerFields.{widths}
 use Rattle.mask.proofs.Fours.{four-fields, two-fields}
 use Rattle.mask.proofs.FullWidth.{announced-le}
 use Rattle.mask.proofs.length_before_d24.Statement.{statement}

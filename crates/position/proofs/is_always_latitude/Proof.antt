@@ -4,7 +4,7 @@ use borrow.Author.Needs.{needs}
 use mathlib.Core.Path.{ap₂}
 use Prim.Native.Nat.{ℕ, _+_, _*_, _^_}
 use lib.Dec.{leb}
-use Rattle.position.specs.Always.{isAlwaysLatitude}
+use Rattle.position.specs.InnerAlways.{isAlwaysLatitude}
 use Rattle.position.proofs.is_always_latitude.Statement.{statement}
 use Rattle.position.proofs.is_always_latitude.Tie as tie
 

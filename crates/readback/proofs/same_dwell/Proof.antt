@@ -9,11 +9,12 @@ use denote.Ref.{now}
 use lib.ListN.{length, take, drop}
 use Rattle.octets.proofs.Parts.{tail-is}
 use Rattle.format.specs.Dwell.{maskOf, targetsOf}
-use Rattle.format.specs.Sheet.{Record, recordLength, dwellRecord, dwellRecords, targetRecords, recordBytes}
+use Rattle.format.specs.Sheet.{Record, dwellRecord, dwellRecords, targetRecords, recordBytes}
+use Rattle.format.specs.Lengths.{recordLength}
 use Rattle.format.specs.Writer.{isSame}
 use Rattle.format.proofs.Dwells.{IsDwell, is-dwell}
 use Rattle.dwell_checks.specs.declared.Plan.{Plan}
-use Rattle.dwell_checks.specs.Plan.{Headed}
+use Rattle.dwell_checks.specs.InnerPlan.{Headed}
 use Rattle.dwell_checks.proofs.Plans.{headed, start-within, targets-are, targets-stand, targets-pass}
 use Rattle.readback.proofs.Fronts.{record-differs, record-same}
 use Rattle.readback.proofs.Rests.{dwell-length, left-length}

@@ -11,7 +11,7 @@ use lib.ListN.{length, drop, drop-of-length-le}
 use Rattle.octets.proofs.Parts.{length-part}
 use Rattle.format.specs.declared.Reading.{Reading}
 use Rattle.format.specs.Writer.{isSame}
-use Rattle.segments.specs.Walk.{allBytes}
+use Rattle.segments.specs.InnerWalk.{allBytes}
 use Rattle.segments.proofs.Turning.{Left, bytesLeft, all-left, headed, Turn, turn, bytesAt, nothing-left}
 use Rattle.readback.proofs.Fronts.{part-differs, part-same}
 use Rattle.readback.proofs.same_records.Statement.{statement}

@@ -9,13 +9,14 @@ use denote.Ref.{now}
 use lib.ListN.{length, take, drop, length-drop}
 use Rattle.octets.proofs.Parts.{tail-is}
 use Rattle.format.specs.declared.Check.the-variants.{Passed}
-use Rattle.format.specs.Sheet.{bodyLength, recordLength, recordOf, piecesOf, pieceCount, textRecords, opaqueRecords, segmentRecords, recordBytes}
+use Rattle.format.specs.Sheet.{bodyLength, recordOf, piecesOf, pieceCount, textRecords, opaqueRecords, segmentRecords, recordBytes}
+use Rattle.format.specs.Lengths.{recordLength}
 use Rattle.format.specs.Rows.{firstRow, bodyRows}
 use Rattle.format.specs.Writer.{isSame}
 use Rattle.format.proofs.Bodies.{text-length}
 use Rattle.format.proofs.ByType.{rows-as}
 use Rattle.format.proofs.Lengths.{recordsOf, length-one, length-opaque}
-use Rattle.segments.specs.Walk.{bytesOf}
+use Rattle.segments.specs.InnerWalk.{bytesOf}
 use Rattle.segments.proofs.Types.{length-as}
 use Rattle.readback.proofs.Types.{filled-same, behind-same, longer-is}
 use Rattle.readback.proofs.same_segment.Statement.{statement}

@@ -10,10 +10,11 @@ use denote.Ref.{now}
 use lib.ListN.{length, drop, length-take, length-drop}
 use Rattle.octets.proofs.Parts.{tail-is}
 use Rattle.format.specs.declared.Check.the-variants.{Passed}
-use Rattle.format.specs.Sheet.{recordLength, targetRecords, recordBytes}
+use Rattle.format.specs.Sheet.{targetRecords, recordBytes}
+use Rattle.format.specs.Lengths.{recordLength}
 use Rattle.format.specs.Rows.{firstRow, targetsRows}
 use Rattle.format.specs.Writer.{isSame}
-use Rattle.readback.specs.Window.{windowLength}
+use Rattle.readback.specs.InnerWindow.{windowLength}
 use Rattle.readback.proofs.Batches.{batch-rows, batch-within, targets-differ, targets-same, targets-end}
 use borrow.Author.Needs.{needs}
 use Rattle.readback.proofs.same_targets.Statement.{statement}

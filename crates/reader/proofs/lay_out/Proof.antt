@@ -1,6 +1,7 @@
 -- `reader::lay_out` meets its contract. Each type's filler is handed a body to which that type's rows do not apply.
 -- Assumes nothing.
 use Prim.Native.Nat.{ℕ, _≤_}
+use native.Mathlib.Omega.{arith}
 use mathlib.Core.Path.{_≡_}
 use mathlib.Core.List.{List}
 use borrow.Author.Needs.{needs}
@@ -8,12 +9,12 @@ use denote.Ref.{now}
 use lib.ListN.{length}
 use lib.Seq.{sets}
 use Rattle.format.specs.declared.Check.the-variants.{Passed}
-use Rattle.format.specs.Sheet.{segmentRecords}
+use Rattle.format.specs.Sheet.{bodyLength, segmentRecords}
 use Rattle.format.specs.Rows.{firstRow, bodyRows}
 use Rattle.format.proofs.Bodies.{mission-length, job-length, kept-length, text-length}
 use Rattle.format.proofs.ByType.{rows-as, room-as, laid-as}
 use Rattle.format.proofs.Lengths.{recordsOf}
-use Rattle.segments.specs.Walk.{bytesOf}
+use Rattle.segments.specs.InnerWalk.{bytesOf}
 use Rattle.segments.proofs.Types.{room-other, laid-other}
 use Rattle.reader.proofs.lay_out.Statement.{statement}
 use Rattle.reader.proofs.lay_out.Tie as tie
@@ -36,7 +37,7 @@ module _ (s : tie.Start) (k : ℕ) (e : s .args .segment-type ≡ k) where
   laid h = laid-as (s .args .r) b (s .args .segment-type) k o e h
 
 mission-records-requires : tie.Need-mission-records-requires
-unfolding bodyRows
+unfolding bodyRows bodyLength
 mission-records-requires c κs = let s = c .before .before .before .before in let e = c .before .match .keys1 in (mission-length (now (s .args .b)) (rows s 1 e), room s 1 e)
 
 dwell-records-requires : tie.Need-dwell-records-requires
@@ -44,19 +45,19 @@ unfolding bodyRows
 dwell-records-requires c κs = let s = c .before .before .before .before in let e = c .before .match .keys2 in (rows s 2 e, room s 2 e)
 
 job-records-requires : tie.Need-job-records-requires
-unfolding bodyRows
-job-records-requires c κs = let s = c .before .before .before .before in let e = c .before .match .keys3 in (job-length (s .args .r) (now (s .args .b)) (rows s 5 e), room s 5 e)
+unfolding bodyRows bodyLength
+job-records-requires c κs = let s = c .before .before .before .before in let e = c .before .match .keys3 in (omega (arith, job-length (s .args .r) (now (s .args .b)) (rows s 5 e)), room s 5 e)
 
 text-records-requires : tie.Need-text-records-requires
 unfolding bodyRows
 text-records-requires c κs = let s = c .before .before .before .before in let e = c .before .match .keys4 in (text-length (now (s .args .b)) (rows s 6 e), s .pre .0 .short, room s 6 e)
 
 test-records-requires : tie.Need-test-records-requires
-unfolding bodyRows
+unfolding bodyRows bodyLength
 test-records-requires c κs = let s = c .before .before .before .before in let e = c .before .match .keys5 in (kept-length 14 (now (s .args .b)) (rows s 10 e), room s 10 e)
 
 location-records-requires : tie.Need-location-records-requires
-unfolding bodyRows
+unfolding bodyRows bodyLength
 location-records-requires c κs = let s = c .before .before .before .before in let e = c .before .match .keys6 in (kept-length 23 (now (s .args .b)) (rows s 13 e), room s 13 e)
 
 opaque-records-requires : tie.Need-opaque-records-requires

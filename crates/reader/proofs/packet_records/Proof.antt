@@ -10,7 +10,7 @@ use lib.ListN.{length, length-drop}
 use lib.Seq.{sets}
 use Rattle.octets.proofs.Parts.{filled-next, filled-length, tail-is}
 use Rattle.format.specs.declared.Reading.{Reading}
-use Rattle.segments.specs.Walk.{allBytes}
+use Rattle.segments.specs.InnerWalk.{allBytes}
 use Rattle.segments.proofs.Turning.{Left, bytesLeft, all-left, headed, Turn, turn, bytesAt, nothing-left}
 use Rattle.reader.proofs.packet_records.Statement.{statement}
 use Rattle.reader.proofs.packet_records.Tie as tie

@@ -9,8 +9,9 @@ use denote.Ref.{now}
 use lib.ListN.{length, length-drop}
 use lib.Seq.{sets}
 use Rattle.octets.proofs.Parts.{tail-is}
-use Rattle.format.specs.Sheet.{recordLength}
-use Rattle.segments.specs.Walk.{allBytes}
+use Rattle.format.specs.Sheet.{bodyLength}
+use Rattle.format.specs.Lengths.{recordLength}
+use Rattle.segments.specs.InnerWalk.{allBytes}
 use Rattle.segments.proofs.Packets.{behind, Whole, whole}
 use Rattle.reader.proofs.Outcomes.{laid-behind}
 use Rattle.reader.proofs.set_out.Statement.{statement}
@@ -28,6 +29,7 @@ module _ (c : tie.After-reading-of) where
   known = whole (start .args .settings) packet (c .reading-of .result) (start .pre .0) (c .reading-of .ensures)
 
 header-record-requires : tie.Need-header-record-requires
+unfolding bodyLength
 header-record-requires c κs = let r = c .before in (known r .headed, omega (arith, known r .sheet-length, start r .pre .1))
 
 sub-packet-records : tie.Need-sub-packet-records

@@ -7,7 +7,8 @@ use denote.Ref.{now}
 use lib.ListN.{length, drop}
 use lib.Seq.{sets}
 use borrow.Author.Needs.{needs}
-use Rattle.format.specs.Sheet.{recordLength, pieceRecord, pieceRecords, recordBytes}
+use Rattle.format.specs.Sheet.{pieceRecord, pieceRecords, recordBytes}
+use Rattle.format.specs.Lengths.{recordLength}
 use Rattle.records.proofs.Laid.{part-laid}
 use Rattle.records.proofs.Pieces.{pieces-next, pieces-first, pieces-last}
 use Rattle.records.proofs.full_pieces.Statement.{statement}

@@ -2,7 +2,8 @@
 -- Assumes nothing.
 use denote.Ref.{now}
 use Rattle.octets.proofs.Parts.{part-filled}
-use Rattle.format.specs.Sheet.{recordLength, piecesOf, recordBytes}
+use Rattle.format.specs.Sheet.{piecesOf, recordBytes}
+use Rattle.format.specs.Lengths.{recordLength}
 use Rattle.records.proofs.Bodies.{opaque-laid}
 use borrow.Author.Needs.{needs}
 use Rattle.records.proofs.opaque_records.Statement.{statement}

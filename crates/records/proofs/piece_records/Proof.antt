@@ -5,7 +5,8 @@ use mathlib.Core.List.{List, [], _∷_}
 use denote.Ref.{now}
 use lib.ListN.{length}
 use borrow.Author.Needs.{needs}
-use Rattle.format.specs.Sheet.{recordLength, pieceRecord, pieceCount, recordBytes}
+use Rattle.format.specs.Sheet.{pieceRecord, pieceCount, recordBytes}
+use Rattle.format.specs.Lengths.{recordLength}
 use Rattle.records.proofs.Laid.{part-laid}
 use Rattle.records.proofs.Pieces.{pieces-with-last, pieces-all-full}
 use Rattle.records.proofs.piece_records.Statement.{statement}

@@ -3,7 +3,8 @@
 use Prim.Native.Nat.{ℕ}
 use mathlib.Core.List.{List}
 use denote.Ref.{now}
-use Rattle.format.specs.Sheet.{recordLength, pieceCount, piecesOf, recordBytes}
+use Rattle.format.specs.Sheet.{pieceCount, piecesOf, recordBytes}
+use Rattle.format.specs.Lengths.{recordLength}
 use Rattle.records.proofs.Laid.{part-laid}
 use Rattle.records.proofs.Bodies.{text-laid}
 use borrow.Author.Needs.{needs}

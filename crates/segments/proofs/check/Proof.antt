@@ -10,10 +10,10 @@ use lib.ListN.{length, drop, length-drop}
 use Rattle.octets.proofs.ByteLists.{drop-bytes}
 use Rattle.octets.proofs.Parts.{tail-is}
 use Rattle.format.specs.declared.Reading.{Reading}
-use Rattle.format.specs.Sheet.{recordLength}
+use Rattle.format.specs.Lengths.{recordLength}
 use Rattle.format.specs.Reader.{parse}
 use Rattle.segments.specs.declared.Dwells.{Dwells}
-use Rattle.segments.specs.Walk.{noDwells, Among, answerFrom}
+use Rattle.segments.specs.InnerWalk.{noDwells, Among, answerFrom}
 use Rattle.segments.proofs.Counting.{past-among}
 use Rattle.segments.proofs.Walking.{most, IsGood, here-good, Fit, fit, from-good, from-bad, from-end}
 use Rattle.segments.proofs.check.Statement.{statement}

@@ -9,7 +9,7 @@ use denote.Ref.{now}
 use lib.ListN.{getD}
 use Rattle.format.specs.Packet.{typeAt}
 use Rattle.format.proofs.Rows.{segment-passes}
-use Rattle.segments.specs.Walk.{past}
+use Rattle.segments.specs.InnerWalk.{past}
 use Rattle.segments.proofs.dwells_past.Statement.{statement}
 use Rattle.segments.proofs.dwells_past.Tie as tie
 

@@ -11,4 +11,4 @@ unfolding pieceCount
 returns c = omega arith
 
 pub pieces-length-spec : {M : Type 1} → statement M
-pieces-length-spec = tie.close (tie.spec (λ c. search needs) (λ c. search needs) returns)
+pieces-length-spec = tie.close (tie.spec (λ c. search needs) (λ c. search needs) (λ c. search needs) returns)

@@ -11,7 +11,7 @@ use Rattle.format.specs.Rows.{bodyRows}
 use Rattle.format.proofs.Bodies.{text-length}
 use Rattle.format.proofs.ByType.{rows-as}
 use Rattle.format.proofs.Lengths.{recordsOf}
-use Rattle.segments.specs.Walk.{bytesOf, targetsOfType}
+use Rattle.segments.specs.InnerWalk.{bytesOf, targetsOfType}
 use Rattle.segments.proofs.Types.{length-as, length-other}
 use Rattle.segments.proofs.records_length.Statement.{statement}
 use Rattle.segments.proofs.records_length.Tie as tie

@@ -7,7 +7,7 @@ use Prim.Native.Nat.{_-_}
 use denote.Ref.{now}
 use lib.ListN.{length, drop}
 use Rattle.format.specs.Writer.{listed, noHeader}
-use Rattle.sheet_walk.specs.Shape.{isRest}
+use Rattle.sheet_walk.specs.InnerShape.{isRest}
 use Rattle.sheet_walk.proofs.Places.{WholeAt, at-place}
 use Rattle.sheet_walk.proofs.Headed.{header-again, rest-more}
 use Rattle.sheet_walk.proofs.is_rest.Statement.{statement}

@@ -6,7 +6,7 @@ use mathlib.Core.Path.{ap, _∙_}
 use denote.Ref.{now}
 use Rattle.format.specs.Sheet.{bodyLength}
 use Rattle.format.specs.Writer.{calledFor, typeOf, given}
-use Rattle.sheet_walk.specs.Shape.{eachTakes, leadOf}
+use Rattle.sheet_walk.specs.InnerShape.{eachTakes, leadOf}
 use Rattle.sheet_walk.proofs.Leads.{body-bound, text-lead, job-lead, other-lead}
 use Rattle.sheet_walk.proofs.lead_of.Statement.{statement}
 use Rattle.sheet_walk.proofs.lead_of.Tie as tie

@@ -5,7 +5,7 @@ use native.Mathlib.Omega.{arith}
 use mathlib.Core.Path.{sym, _∙_}
 use mathlib.Core.Bool.{and-false}
 use borrow.Author.Tests.{le-ltb, lt-ltb, le-leb, lt-leb}
-use Rattle.sheet_walk.specs.Shape.{placeAt}
+use Rattle.sheet_walk.specs.InnerShape.{placeAt}
 use Rattle.sheet_walk.proofs.record_at.Statement.{statement}
 use Rattle.sheet_walk.proofs.record_at.Tie as tie
 

@@ -8,7 +8,7 @@ use denote.Ref.{now}
 use Rattle.format.specs.Sheet.{Record}
 use Rattle.format.specs.Writer.{Due, due}
 use Rattle.spelling.specs.declared.Counted.the-variants.{Then}
-use Rattle.spelling.specs.Spelling.{recordIn}
+use Rattle.spelling.specs.InnerSpelling.{recordIn}
 use Rattle.spelling.proofs.Followers.{share-le}
 use Rattle.spelling.proofs.Surveyed.{count-other, count-unshared, count-follower, count-misplaced, count-leader}
 use Rattle.spelling.proofs.count.Statement.{statement}

@@ -3,7 +3,7 @@
 use borrow.Author.Needs.{needs}
 use borrow.Author.Tests.{eq-eqb, ne-eqb}
 use mathlib.Core.Path.{sym, ap, _∙_}
-use Rattle.spelling.specs.Spelling.{headerEnd}
+use Rattle.spelling.specs.InnerSpelling.{headerEnd}
 use Rattle.spelling.proofs.header_end.Statement.{statement}
 use Rattle.spelling.proofs.header_end.Tie as tie
 

@@ -8,7 +8,7 @@ use lib.ListN.{length, length-drop}
 use Rattle.octets.proofs.Parts.{tail-is, part-filled}
 use Rattle.format.specs.Sheet.{Record}
 use Rattle.format.specs.Writer.{given}
-use Rattle.spelling.specs.Spelling.{recordIn}
+use Rattle.spelling.specs.InnerSpelling.{recordIn}
 use Rattle.spelling.proofs.Regrouped.{begun-length}
 use Rattle.spelling.proofs.Stored.{lead-given, lead-size, leader-stored}
 use Rattle.spelling.proofs.put_leader.Statement.{statement}
