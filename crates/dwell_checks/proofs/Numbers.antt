@@ -13,10 +13,10 @@ use lib.Seq.{take-suc, drop-drop, getD-drop, getD-append-add, length-take-le}
 use Rattle.octets.specs.Octets.{be, twos, signed}
 use Rattle.octets.specs.Layout.{total, width, value, signedValue}
 use Rattle.mask.specs.Fields.{announced, taken, announcedLength, fullFields, dwellWidths, targetWidths}
-use Rattle.mask.specs.InnerFields.{widths}
 use Rattle.mask.specs.Mask.{isRequired}
-use Rattle.mask.specs.InnerFields.{Required}
+use Rattle.mask.specs.InnerFields.{widths, Required}
 use Rattle.mask.proofs.FullWidth.{announced-le, announced-append}
+use Rattle.mask.proofs.Unfaulted.{from-10, from-28}
 use Rattle.mask.proofs.Places.{announcedBefore, field-within, value-full, value-there}
 use Rattle.octets.proofs.Laws.{one-byte}
 use Rattle.format.specs.Dwell.{D, maskOf, dwellFields, targetFields, targetLength}
@@ -106,30 +106,26 @@ module _ (mask : ℕ) (h : Required mask) where
   unfolding isRequired announcedLength
   before-5 = rw (h 2 refl, h 3 refl, h 4 refl)
 
-  from-10 : (ws : List ℕ) → announcedLength mask 2 (widths 2 9 ++ ws) ≡ 23 + announcedLength mask 10 ws
-  unfolding isRequired announcedLength
-  from-10 ws = rw (h 2 refl, h 3 refl, h 4 refl, h 5 refl, h 6 refl, h 7 refl, h 8 refl, h 9 refl) (omega arith)
-
   pub before-10 : announcedBefore mask 2 dwellWidths 10 ≡ 23
   unfolding announcedLength
-  before-10 = from-10 []
+  before-10 = from-10 mask h []
 
   pub before-11 : announcedBefore mask 2 dwellWidths 11 ≡ 23 + taken mask 10 4
   unfolding announcedLength
-  before-11 = omega (arith, from-10 (4 ∷ []))
+  before-11 = omega (arith, from-10 mask h (4 ∷ []))
 
   -- D25 stands behind D24
   pub before-25 : announcedBefore mask 2 dwellWidths 25 ≡ announcedBefore mask 2 dwellWidths 24 + 4
   unfolding isRequired announcedLength
   before-25 = rw (h 24 refl) (omega arith)
 
-  -- and all required fields take 35 bytes
-  from-24 : 12 ≤ announcedLength mask 24 (widths 24 31)
-  unfolding isRequired announcedLength
-  from-24 = rw (h 24 refl, h 25 refl, h 26 refl, h 27 refl) (omega arith)
+  -- the fields before D24, and those from there on
+  pub split-24 : announcedLength mask 2 dwellWidths ≡ announcedLength mask 2 (widths 2 23) + announcedLength mask 24 (widths 24 31)
+  split-24 = announced-append mask 2 (widths 2 23) (widths 24 31)
 
+  -- and all required fields take 35 bytes
   pub required-length : 35 ≤ announcedLength mask 2 dwellWidths
-  required-length = omega (arith, from-10 (widths 10 31), announced-append mask 10 (widths 10 23) (widths 24 31), from-24)
+  required-length = omega (arith, split-24, from-10 mask h (widths 10 23), from-28 mask h (widths 28 31))
 
 -- D4 of a body with the required fields
 pub d4-is : (b : List ℕ) → Required (maskOf b) → getD b 12 0 ≡ D 4 (dwellFields b)

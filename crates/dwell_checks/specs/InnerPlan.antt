@@ -8,7 +8,7 @@ use lib.IntN.{natAbs}
 use lib.ListN.{length, drop}
 use Rattle.octets.specs.Octets.{be}
 use Rattle.mask.specs.Fields.{announced, announcedLength, dwellWidths, d32}
-use Rattle.mask.specs.InnerFields.{Required}
+use Rattle.mask.specs.InnerFields.{widths, Required}
 use Rattle.position.specs.InnerAlways.{isAlwaysLatitude}
 use Rattle.format.specs.declared.Area.{Area}
 use Rattle.format.specs.Dwell.{maskOf, dwellFields, targetCount, targetLength, areaOf}
@@ -17,6 +17,10 @@ use Rattle.dwell_checks.specs.declared.Plan.{Plan}
 -- a body that begins with this mask, which announces the required fields, and that has the announced ones
 abbrev pub Headed : ℕ → List ℕ → Type 0
 Headed mask b = (mask ≡ maskOf b) × Required mask × (8 + announcedLength mask 2 dwellWidths ≤ length b)
+
+-- where D24 stands in the body of a dwell with this mask
+abbrev pub d24At : ℕ → ℕ
+d24At mask = 8 + announcedLength mask 2 (widths 2 23)
 
 -- D10 and D24 as 32 bits have them
 abbrev pub Bounded : Area → Type 0

@@ -10,7 +10,7 @@ ghost use Rattle.position.specs.Position.{isLatitude};
 ghost use Rattle.format.specs.declared.Reading.{Reading};
 ghost use Rattle.format.specs.Dwell.{maskOf, dwellFields, targetCount, targetLength, targetFields, areaOf, latitude, longitude};
 ghost use Rattle.format.specs.Rows.{firstRow, targetRows, targetsRows, dwellRows};
-ghost use Rattle.dwell_checks.specs.InnerPlan.{Headed, Bounded, Holds, planOf, isInside, numberIf};
+ghost use Rattle.dwell_checks.specs.InnerPlan.{Headed, d24At, Bounded, Holds, planOf, isInside, numberIf};
 use format::Check;
 
 // What a walk over a dwell needs of it: the mask, where the targets start in the body, the bytes of each, how many they are, and what their
@@ -107,12 +107,12 @@ pub fn target_count(b: &[u8]) -> u16
     octets::get_u16(b, 13)
 }
 
-// What the positions of the targets take from the dwell's body b: D10 and D11, which stand behind D2 to D9, and D24 and D25.
-fn area(b: &[u8], mask: u64) -> format::Area
-    requires { ⌜ Headed mask (now b) ⌝ }
+// What the positions of the targets take from the dwell's body b: D10 and D11, which stand behind D2 to D9, and
+// from `at` on D24 and D25.
+fn area(b: &[u8], mask: u64, at: usize) -> format::Area
+    requires { ⌜ Headed mask (now b) × (at ≡ d24At mask) ⌝ }
     ensures { λ r. ⌜ (r ≡ areaOf (dwellFields (now (b .entry)))) × Bounded r ⌝ }
 {
-    let at = 8 + mask::length_before_d24(mask);
     format::Area {
         d10: position::latitude_steps(i32_if(b, mask, 10, 31)),
         d11: position::Ba32(u32_if(b, mask, 11, 31 + width_if(mask, 10, 4))),
@@ -122,11 +122,11 @@ fn area(b: &[u8], mask: u64) -> format::Area
 }
 
 // The plan of the dwell's body b, by the numbers that its mask and its D5 give.
-fn plan_by(b: &[u8], mask: u64, start: usize, each: usize, count: usize) -> Plan
-    requires { ⌜ Headed mask (now b) × (start ≡ 8 + announcedLength mask 2 dwellWidths) × (each ≡ targetLength mask) × (count ≡ targetCount (now b)) ⌝ }
+fn plan_by(b: &[u8], mask: u64, at: usize, start: usize, each: usize, count: usize) -> Plan
+    requires { ⌜ Headed mask (now b) × (at ≡ d24At mask) × (start ≡ 8 + announcedLength mask 2 dwellWidths) × (each ≡ targetLength mask) × (count ≡ targetCount (now b)) ⌝ }
     ensures { λ p. ⌜ (p ≡ planOf (now (b .entry))) × Bounded (p .area) ⌝ }
 {
-    let area = area(b, mask);
+    let area = area(b, mask, at);
     Plan {
         mask,
         start,
@@ -141,10 +141,12 @@ pub fn plan_of(b: &[u8], mask: u64) -> Plan
     requires { ⌜ Headed mask (now b) ⌝ }
     ensures { λ p. ⌜ (p ≡ planOf (now (b .entry))) × Bounded (p .area) ⌝ }
 {
-    let start = 8 + mask::dwell_length(mask);
+    let at = 8 + mask::length_before_d24(mask);
+    let start = at + mask::length_from_d24(mask);
     plan_by(
         b,
         mask,
+        at,
         start,
         mask::target_length(mask),
         target_count(b) as usize,
@@ -293,7 +295,8 @@ pub fn dwell_check(r: format::Reading, b: &[u8]) -> Check
     if new != 0 {
         return Check::Failed(15, new as usize);
     }
-    let start = 8 + mask::dwell_length(mask);
+    let at = 8 + mask::length_before_d24(mask);
+    let start = at + mask::length_from_d24(mask);
     if b.len() < start {
         return Check::Failed(12, 0);
     }
@@ -302,5 +305,5 @@ pub fn dwell_check(r: format::Reading, b: &[u8]) -> Check
     if b.len() != start + count * each {
         return Check::Failed(12, 0);
     }
-    dwell_values(b, plan_by(b, mask, start, each, count))
+    dwell_values(b, plan_by(b, mask, at, start, each, count))
 }

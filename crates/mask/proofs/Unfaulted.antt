@@ -1,15 +1,17 @@
--- A mask without a field at fault announces every field that is required.
+-- A mask without a field at fault announces every field that is required, and these take all their bytes.
 -- Assumes nothing.
 use mathlib.Core.Path.{_≡_, refl, sym, ap, _∙_}
 use mathlib.Core.Logic.{_⊎_, inl, inr}
 use mathlib.Core.Bool.{Bool, true, false, cond, _&&_, _||_, true≢false}
+use mathlib.Core.List.{List, _++_}
 use Prim.Native.Nat.{ℕ, zero, suc, _+_, _≤_, _<_}
 use native.Mathlib.Nat.{eq-or-lt-of-le}
 use native.Mathlib.Omega.{arith}
 use borrow.Author.Tests.{leb-true}
 use lib.Dec.{leb}
-use Rattle.mask.specs.Fields.{announced}
+use Rattle.mask.specs.Fields.{announced, announcedLength}
 use Rattle.mask.specs.Mask.{isRequired, isFault, firstFrom, lowestFault}
+use Rattle.mask.specs.InnerFields.{widths, Required}
 
 -- where the first number at which f holds is 0, f holds at none of the numbers looked at
 first-zero : (f : ℕ → Bool) (k n : ℕ) → 0 < n → firstFrom f k n ≡ 0 → (m : ℕ) → n ≤ m → m < n + k → f m ≡ false
@@ -46,3 +48,13 @@ required-announced version mask e n q =
     go : (b : Bool) → announced mask n ≡ b → isFault version mask n ≡ false → announced mask n ≡ true
     go true h f = h
     go false h f = absurd (true≢false (sym (rw (q, h)) ∙ f))
+
+-- the required fields take 23 bytes before D10 and 12 from D24 on, whatever follows them
+module _ (mask : ℕ) (h : Required mask) where
+  pub from-10 : (ws : List ℕ) → announcedLength mask 2 (widths 2 9 ++ ws) ≡ 23 + announcedLength mask 10 ws
+  unfolding isRequired announcedLength
+  from-10 ws = rw (h 2 refl, h 3 refl, h 4 refl, h 5 refl, h 6 refl, h 7 refl, h 8 refl, h 9 refl) (omega arith)
+
+  pub from-28 : (ws : List ℕ) → announcedLength mask 24 (widths 24 27 ++ ws) ≡ 12 + announcedLength mask 28 ws
+  unfolding isRequired announcedLength
+  from-28 ws = rw (h 24 refl, h 25 refl, h 26 refl, h 27 refl) (omega arith)

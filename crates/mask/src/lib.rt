@@ -7,7 +7,7 @@ ghost use lib.ListN.{getD};
 ghost use lib.Bits.{bitAnd};
 ghost use lib.Dec.{eqb};
 ghost use Rattle.mask.specs.Fields.{announced, announcedLength, dwellWidths, targetWidths, dwellSize};
-ghost use Rattle.mask.specs.InnerFields.{widths};
+ghost use Rattle.mask.specs.InnerFields.{widths, Required};
 ghost use Rattle.mask.specs.Mask.{isFault, isDoubled, lowestFault, newInMask, isPlaced};
 
 // Sets of fields, each a word with their bits; those that other crates need too are public.
@@ -179,9 +179,29 @@ fn wide(x: u8) -> usize
     x as usize
 }
 
-// The bytes of the announced fields of a dwell in front of D24: where D24 stands behind the mask.
+// The bytes of the announced fields of a dwell in front of D24: where D24 stands behind the mask. D2 to D9 are required, and take 23.
 pub fn length_before_d24(mask: u64) -> usize
+    requires { ⌜ Required mask ⌝ }
     ensures { λ r. ⌜ (r ≡ announcedLength mask 2 (widths 2 23)) × (r ≤ 59) ⌝ }
+{
+    23
+        + four(mask, 10, &LENGTHS_D6_TO_9)
+        + four(mask, 14, &LENGTHS_D14_TO_17)
+        + four(mask, 18, &LENGTHS_D18_TO_21)
+        + four(mask, 22, &LENGTHS_D22_AND_23)
+}
+
+// And from D24 on. D24 to D27 are required, and take 12.
+pub fn length_from_d24(mask: u64) -> usize
+    requires { ⌜ Required mask ⌝ }
+    ensures { λ r. ⌜ (r ≡ announcedLength mask 24 (widths 24 31)) × (r ≤ 19) ⌝ }
+{
+    12 + four(mask, 28, &LENGTHS_D28_TO_31)
+}
+
+// The bytes of the announced fields of a dwell before its targets, of any mask.
+pub fn dwell_length(mask: u64) -> usize
+    ensures { λ r. ⌜ r ≡ announcedLength mask 2 dwellWidths ⌝ }
 {
     four(mask, 2, &LENGTHS_D2_TO_5)
         + four(mask, 6, &LENGTHS_D6_TO_9)
@@ -189,13 +209,6 @@ pub fn length_before_d24(mask: u64) -> usize
         + four(mask, 14, &LENGTHS_D14_TO_17)
         + four(mask, 18, &LENGTHS_D18_TO_21)
         + four(mask, 22, &LENGTHS_D22_AND_23)
-}
-
-// The bytes of the announced fields of a dwell before its targets.
-pub fn dwell_length(mask: u64) -> usize
-    ensures { λ r. ⌜ r ≡ announcedLength mask 2 dwellWidths ⌝ }
-{
-    length_before_d24(mask)
         + four(mask, 24, &LENGTHS_D24_TO_27)
         + four(mask, 28, &LENGTHS_D28_TO_31)
 }

@@ -1,44 +1,15 @@
--- The bytes of text by the ranges of the code's tests, and a turn of the loop over bytes.
+-- A turn of the loop over bytes.
 -- Assumes nothing.
 use mathlib.Core.Path.{_≡_, refl, sym, ap, ap₂, _∙_}
-use mathlib.Core.Bool.{Bool, true, false, _&&_, cond, and-assoc, and-false}
+use mathlib.Core.Bool.{Bool, true, false, _&&_, cond, and-assoc}
 use mathlib.Core.List.{List}
 use Prim.Native.Nat.{ℕ, _+_, _≤_, _<_}
 use native.Mathlib.Numerals.{add-one}
-use native.Mathlib.Omega.{arith}
-use borrow.Author.Tests.{le-leb, lt-leb, ne-eqb}
 use lib.Bits.{bitOr}
-use lib.Dec.{leb, eqb}
+use lib.Dec.{eqb}
 use lib.ListN.{length, getD, drop, drop-of-length-le}
 use lib.Seq.{drop-cons}
 use Rattle.text.specs.Text.{isTextByte, isText}
-
--- the three bytes below 0x20 that are text
-pub text-10 : isTextByte 10 ≡ true
-unfolding isTextByte
-text-10 = refl
-
-pub text-12 : isTextByte 12 ≡ true
-unfolding isTextByte
-text-12 = refl
-
-pub text-13 : isTextByte 13 ≡ true
-unfolding isTextByte
-text-13 = refl
-
--- and the ranges
-module _ (c : ℕ) where
-  pub text-plain : 32 ≤ c → c ≤ 126 → isTextByte c ≡ true
-  unfolding isTextByte
-  text-plain lo hi = rw (le-leb 32 c lo, le-leb c 126 hi)
-
-  pub text-high : 126 < c → isTextByte c ≡ false
-  unfolding isTextByte
-  text-high h = rw (lt-leb c 126 h, and-false (leb 32 c), ne-eqb c 10 (λ e. omega arith), ne-eqb c 12 (λ e. omega arith), ne-eqb c 13 (λ e. omega arith))
-
-  pub text-low : c < 32 → (c ≡ 10 → ⊥) → (c ≡ 12 → ⊥) → (c ≡ 13 → ⊥) → isTextByte c ≡ false
-  unfolding isTextByte
-  text-low h a b d = rw (lt-leb 32 c h, ne-eqb c 10 a, ne-eqb c 12 b, ne-eqb c 13 d)
 
 -- whether all bytes so far are text is b, and what is left decides the rest
 pub record Seen (s : List ℕ) (seen i : ℕ) : Type 0 where

@@ -3,25 +3,17 @@ ghost use mathlib.Core.Path.{_≡_};
 ghost use mathlib.Core.Bool.{cond};
 ghost use Rattle.text.specs.Text.{isTextByte, isText};
 
+fn is_text_byte(c: u8) -> bool
+    ensures { λ r. ⌜ r ≡ isTextByte c ⌝ }
+{
+    32 <= c && c <= 126 || c == 10 || c == 12 || c == 13
+}
+
 // 0 for a byte of text, else 1.
 fn other(c: u8) -> u8
     ensures { λ r. ⌜ r ≡ cond (isTextByte c) 0 1 ⌝ }
 {
-    if 126 < c {
-        1
-    } else if c < 32 {
-        if c == 10 {
-            0
-        } else if c == 12 {
-            0
-        } else if c == 13 {
-            0
-        } else {
-            1
-        }
-    } else {
-        0
-    }
+    if is_text_byte(c) { 0 } else { 1 }
 }
 
 pub fn is_text(s: &[u8]) -> bool
