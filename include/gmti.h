@@ -30,8 +30,8 @@ enum {
     GMTI_SEGMENT = 1,  /* the segment that it is about, from 1; 0 for the call, the header, the end and the writer */
     GMTI_FIELD = 2,    /* the field that it names, or 0 */
     GMTI_SEGMENTS = 3, /* how many segments the packet has */
-    GMTI_DWELLS = 4,   /* how many of them are dwells */
-    GMTI_TARGETS = 5,  /* how many targets these have together */
+    GMTI_DWELLS = 4,   /* how many dwells: different pairs of D2 and D3 in the segments of type 2; one split over several counts once */
+    GMTI_TARGETS = 5,  /* how many targets the segments of type 2 have together */
     GMTI_LENGTH = 6    /* the length of the sheet; from gmti_write, of the packet */
 };
 
@@ -41,7 +41,7 @@ void gmti_read(uint32_t edition, const uint8_t *packet, size_t packet_length, ui
                uint32_t answer[7]);
 
 /* Writes the packet that reads, as Edition 3, to just this sheet. An accepted sheet fills the first answer[GMTI_LENGTH] bytes of the
- * lent packet and leaves the rest as it was; a refused one leaves the whole packet as it was. It takes some 67 kB of stack. */
+ * lent packet and leaves the rest as it was; a refused one leaves the whole packet as it was. It takes some 72 kB of stack. */
 void gmti_write(const uint8_t *sheet, size_t sheet_length, uint8_t *packet, size_t packet_length, uint32_t answer[7]);
 
 #ifdef __cplusplus

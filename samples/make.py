@@ -70,6 +70,12 @@ def targets(count, more={}):
     return [{**at, 7: 900 + int(200 * SCATTER.random()), 8: 2500, 9: 14, 10: 129, 11: 85, **more} for at in where]
 
 
+def split_dwell():
+    """One dwell in two segments, with three targets and with two: D2 and D3 are the same, and D32.1 counts on."""
+    found = [{1: k, **target} for k, target in enumerate(targets(5))]
+    return dwell(place(7), found[:3]), dwell(place(7), found[3:])
+
+
 def dwell_every_field(count):
     """A dwell with every field that Edition 1 allows beside deltas from the centre, here in units of 64 steps."""
     flight = {10: 64, 11: 64, 12: 250, 13: 250, 14: 300, 15: angle(92.5, 16), 16: 62_000, 17: -3, 18: 1, 19: 150, 20: 20}
@@ -139,6 +145,7 @@ def samples():
         "version_3_dwell_and_job": packet(b"30", dwell(place(0), three), job(1)),
         "damaged_height": packet(b"30", dwell(place(5), bad)),
         "damaged_cut_short": packet(b"30", dwell(place(0), three))[:-10],
+        "split_dwell": packet(b"30", *split_dwell()),  # last, so that the others keep what they drew of SCATTER
     }
     names = ["dwell_every_field", "damaged_height", "new_cross_section", "version_1_dwell_and_job"]
     last = packet(b"30", dwell(place(6, {4: 1})), status, location, free_text)

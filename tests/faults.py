@@ -35,6 +35,7 @@ PIPE_SIZE = 4096  # bytes, the least that the system gives: so a long output doe
 STEP = 7  # bytes that a call moves at most where calls are interrupted
 COPIES = 480  # segments of a long packet: its sheet still fits the 65,536 bytes that gmti_read lends
 LINES = 3000  # of a long list
+LINE_SIZE = 10_000  # bytes that a line of it has at most: those of full packets would make it some 25 MB long
 LONGEST_PACKET = 65_536
 LONGEST_SHEET = 736_953
 LONGEST_LINE = 262_144  # with its line feed
@@ -685,7 +686,8 @@ def list_program(name: str, last: bytes) -> Program:
     """A short list whose last packet is accepted; a long one, over a megabyte, with a number before each name."""
     lines, answers = listed(name)
     short = lines[:3] + [named(lines, last)], answers[:3] + [named(answers, last)]
-    longest = sorted(zip(lines, answers), key=lambda pair: len(pair[0]))[len(lines) * 2 // 3 :]
+    usual = [pair for pair in zip(lines, answers) if len(pair[0]) <= LINE_SIZE]
+    longest = sorted(usual, key=lambda pair: len(pair[0]))[len(usual) * 2 // 3 :]
     chosen = list(itertools.islice(itertools.cycle(longest), LINES))
     long = [b"".join(b"%d %s" % (k, pair[side]) for k, pair in enumerate(chosen)) for side in (0, 1)]
     given, answer = (b"".join(side) for side in short)
@@ -701,7 +703,8 @@ def programs() -> list[Program]:
     older = last_word(named(answers, b"trial 92 bytes old reading"))
     position = b"-351563 359648438\n"
     printed = b"ok 1 1 1 166\n" + position
-    many_printed = b"ok %d %d %d %d\n" % (COPIES, COPIES, COPIES, 33 + 133 * COPIES) + position * COPIES
+    # All copies have the same D2 and D3, so they are counted as one dwell.
+    many_printed = b"ok %d 1 %d %d\n" % (COPIES, COPIES, 33 + 133 * COPIES) + position * COPIES
     packets, newers = (packet, many_segments(packet, 32)), (newer, many_segments(newer, 33))
     return [
         packet_program("gmti_read", [], (trial, many_segments(trial, 32)), (printed, many_printed)),

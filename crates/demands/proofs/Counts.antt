@@ -1,24 +1,28 @@
--- The counts of a reading are those of its sheet: its segments, dwells and targets are its records of the kinds for them.
+-- The counts of a reading are those of its sheet: its segments and targets are its records of the kinds for them, its dwells the different
+-- pairs of D2 and D3 on them.
 -- Assumes nothing.
-use Prim.Native.Nat.{ℕ, zero, suc, _+_, _*_}
+use Prim.Native.Nat.{ℕ, zero, suc, _+_, _*_, _≤_}
 use native.Mathlib.Nat.{zero-add, add-zero, add-assoc, zero-mul}
 use native.Mathlib.Omega.{arith}
 use mathlib.Core.Path.{_≡_, refl, sym, ap, ap₂, _∙_}
 use mathlib.Core.Bool.{Bool, true, false, cond}
 use mathlib.Core.List.{List, [], _∷_, _++_}
 use lib.Dec.{eqb}
-use lib.ListN.{length, drop}
+use lib.ListN.{length, drop, length-drop}
+use Rattle.distinct.specs.Distinct.{withoutRepeats}
 use Rattle.format.specs.declared.Settings.{Settings}
 use Rattle.format.specs.declared.Reading.{Reading}
 use Rattle.format.specs.declared.Area.{Area}
 use Rattle.format.specs.Packet.{Segment}
-use Rattle.format.specs.Dwell.{targetCount}
+use Rattle.format.specs.Dwell.{targetCount, Pair, isSamePair}
 use Rattle.format.specs.Sheet.{Record, recordOf, headerRecord, dwellRecord, targetRecord, targetRecords, pieceRecord, pieceRecords, dwellRecords, textRecords, opaqueRecords, jobRecords, segmentRecords, packetRecords}
 use Rattle.format.specs.Reader.{dwellsIn, targetsIn, readingOf, parsed, sheet}
 use Rattle.format.proofs.Types.{by-number}
 use Rattle.format.proofs.Records.{listed-sheet}
-use Rattle.demands.specs.Counts.{count, isKind, isLeader}
+use Rattle.format.proofs.Segments.{AllSound, parse-sound}
+use Rattle.demands.specs.Counts.{count, isKind, isLeader, pairsOn}
 use Rattle.demands.specs.Demands.{Counted}
+use Rattle.demands.proofs.Pairs.{pairs-are}
 
 -- a count goes on over records after others
 count-append : (f : Record → Bool) (rs qs : List Record) → count f (rs ++ qs) ≡ count f rs + count f qs
@@ -91,18 +95,6 @@ module _ (r : Reading) where
       one true = omega arith
       one false = refl
 
-  -- each dwell has one of its kind
-  dwells-are : (ss : List Segment) → count (isKind 3) (packetRecords r ss) ≡ dwellsIn ss
-  unfolding count packetRecords dwellsIn
-  dwells-are [] = refl
-  dwells-are (s ∷ ss) =
-      count-append (isKind 3) (segmentRecords r s) (packetRecords r ss)
-      ∙ ap₂ (λ (x y : ℕ). x + y) (counts-segment (λ k. eqb k 3) false refl refl refl refl refl refl refl r s ∙ one (eqb (s .type) 2)) (dwells-are ss)
-    where
-      one : (b : Bool) → cond b (1 + targetCount (s .body) * 0) 0 ≡ cond b 1 0
-      one true = omega arith
-      one false = refl
-
   -- and so many targets as it says
   targets-are : (ss : List Segment) → count (isKind 4) (packetRecords r ss) ≡ targetsIn ss
   unfolding count packetRecords targetsIn
@@ -115,13 +107,17 @@ module _ (r : Reading) where
       all true = omega arith
       all false = refl
 
--- the counts of a reading's segments are those of the records of its sheet
-pub counts-are : (settings : Settings) (l : List ℕ)
+-- the counts of a reading's segments are those of the records of its sheet, where the packet is not too long
+pub counts-are : (settings : Settings) (l : List ℕ) → length l ≤ 65536
     → Counted (sheet settings l) (length (parsed settings l .segments)) (dwellsIn (parsed settings l .segments)) (targetsIn (parsed settings l .segments)) (length (sheet settings l))
-unfolding count headerRecord recordOf
-counts-are settings l = record {
-  segments-are = rw (listed-sheet settings l) (sym (zero-add _ ∙ leaders-are (readingOf settings l) (parsed settings l .segments)));
-  dwells-are = rw (listed-sheet settings l) (sym (zero-add _ ∙ dwells-are (readingOf settings l) (parsed settings l .segments)));
-  targets-are = rw (listed-sheet settings l) (sym (zero-add _ ∙ targets-are (readingOf settings l) (parsed settings l .segments)));
-  length-is = refl;
-}
+unfolding count pairsOn headerRecord recordOf parsed dwellsIn
+counts-are settings l short =
+    let r = readingOf settings l in
+    let ss = parsed settings l .segments in
+    let sound : AllSound r ss = parse-sound r (length (drop 32 l)) (drop 32 l) (rw length-drop (omega arith)) in
+    record {
+      segments-are = rw (listed-sheet settings l) (sym (zero-add _ ∙ leaders-are r ss));
+      dwells-are = rw (listed-sheet settings l) (ap (λ (ps : List Pair). length (withoutRepeats isSamePair ps)) (sym (pairs-are r ss sound)));
+      targets-are = rw (listed-sheet settings l) (sym (zero-add _ ∙ targets-are r ss));
+      length-is = refl;
+    }

@@ -4,6 +4,7 @@ pub mod First
 pub mod Answered
 pub mod Regroup
 pub mod Complete
+pub mod Pairs
 pub mod Counts
 pub mod AreBytes
 pub mod Written

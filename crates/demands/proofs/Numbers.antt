@@ -1,6 +1,7 @@
 -- Every number of an answer fits 32 bits, whatever the edition, the bytes and the lent memory, so a caller in C has room for each. The
 -- rows and the fields that a refusal names are those of document 01. A packet that gets past its header has at most 65,536 bytes, so it has
--- no more segments than that, and its sheet is no longer than the longest; the sheet has a record for whatever an acceptance counts.
+-- no more segments than that, and its sheet is no longer than the longest; the sheet has a record for each segment and target that an
+-- acceptance counts, and there are no more dwells than segments.
 -- Assumes nothing.
 use Prim.Native.Nat.{ℕ, zero, suc, _+_, _^_, _≤_, _<_}
 use native.Mathlib.Omega.{arith}
@@ -11,6 +12,7 @@ use borrow.Author.Tests.{ltb-false, leb-true}
 use lib.Dec.{T, ltb, leb, eqb, lit<, lit≤}
 use lib.ListN.{length, getD, take, drop, length-drop}
 use Rattle.octets.specs.Layout.{field as fieldOf}
+use Rattle.distinct.proofs.Laws.{no-longer}
 use Rattle.text.specs.Text.{isText, textFault}
 use Rattle.mask.specs.Fields.{announced}
 use Rattle.mask.specs.Mask.{firstFrom, isFault, lowestFault, isGap, d28to30, newInMask}
@@ -22,13 +24,13 @@ use Rattle.format.specs.declared.Check.the-variants.{Passed, Failed}
 use Rattle.format.specs.declared.Answer.{Answer}
 use Rattle.format.specs.declared.Answer.the-variants.{Accepted, Refused}
 use Rattle.format.specs.Packet.{headerWidths, headerTexts, Segment, typeAt, sizeAt, bodyAt, missionWidths, missionTexts, jobWidths, jobTexts, freeTextWidths, freeTextTexts}
-use Rattle.format.specs.Dwell.{maskOf, dwellFields, targetCount, targetsOf, targetLength, areaOf}
+use Rattle.format.specs.Dwell.{maskOf, dwellFields, targetCount, targetsOf, targetLength, pairOf, isSamePair, areaOf}
 use Rattle.format.specs.Edition.{asEdition, isOlder}
 use Rattle.format.specs.Sheet.{Record, bodyLength}
 use Rattle.format.specs.Lengths.{longestSheet}
 use Rattle.format.specs.Answer.{numbersOf}
 use Rattle.format.specs.Rows.{Row, firstRow, headerRows, missionRows, targetRows, targetsRows, dwellRows, jobRows, textRows, keptRows, bodyRows, segmentRows}
-use Rattle.format.specs.Reader.{Parsed, onward, parse, dwellsIn, targetsIn, readingOf, parsed, sheet, segmentsAnswer, readingAnswer, read}
+use Rattle.format.specs.Reader.{Parsed, onward, parse, pairsIn, dwellsIn, targetsIn, readingOf, parsed, sheet, segmentsAnswer, readingAnswer, read}
 use Rattle.format.specs.Writer.{Listed, list, listed, spell, sheetRows, writerRows, writerAnswer, writingAnswer, write}
 use Rattle.format.proofs.Rows.{first-passes, either, neither, both}
 use Rattle.format.proofs.Acceptance.{header-sized}
@@ -216,6 +218,21 @@ list-within (suc k) (kind ∷ x) = go (ltb 0 (bodyLength kind) && leb (bodyLengt
 counted-within : (f : Record → Bool) (x : List ℕ) → count f (listed x .records) ≤ length x
 counted-within f x = omega (arith, count-within f (listed x .records), list-within (length x) x)
 
+-- there are no more pairs of D2 and D3 than segments
+pairs-within : (ss : List Segment) → length (pairsIn ss) ≤ length ss
+unfolding pairsIn
+pairs-within [] = omega arith
+pairs-within (s ∷ ss) = go (eqb (s .type) 2) (pairs-within ss)
+  where
+    go : (t : Bool) → length (pairsIn ss) ≤ length ss → length (cond t (pairOf (dwellFields (s .body)) ∷ pairsIn ss) (pairsIn ss)) ≤ suc (length ss)
+    go true h = omega arith
+    go false h = omega arith
+
+-- so there are no more dwells
+dwells-within : (ss : List Segment) → dwellsIn ss ≤ length ss
+unfolding dwellsIn
+dwells-within ss = omega (arith, no-longer isSamePair (pairsIn ss), pairs-within ss)
+
 -- ---- the numbers of an answer
 
 -- each number of a list is at most the length of the longest sheet
@@ -246,12 +263,12 @@ accepted-within : (settings : Settings) (l : List ℕ) (n : ℕ) → length l �
     → AllWithin (numbersOf (Accepted (length (parsed settings l .segments)) (dwellsIn (parsed settings l .segments)) (targetsIn (parsed settings l .segments)) n))
 unfolding numbersOf
 accepted-within settings l n short h =
-    let c = counts-are settings l in
+    let c = counts-are settings l short in
     let x = sheet settings l in
     let long = sheet-longest settings l short in
     zero-more (zero-more (zero-more
     (one-more (omega (arith, c .segments-are, counted-within isLeader x))
-    (one-more (omega (arith, c .dwells-are, counted-within (isKind 3) x))
+    (one-more (omega (arith, dwells-within (parsed settings l .segments), c .segments-are, counted-within isLeader x))
     (one-more (omega (arith, c .targets-are, counted-within (isKind 4) x))
     (one-more h no-number))))))
 

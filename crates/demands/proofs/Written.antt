@@ -127,7 +127,7 @@ back-means l x e = go (readingAnswer (asEdition 3) l (length x)) refl e
 
 -- the counts are the sheet's
 counted : (settings : Settings) (l lent : List ℕ) (s d t n : ℕ) → read settings l lent .answer ≡ Accepted s d t n → Counted (sheet settings l) s d t n
-counted settings l lent s d t n e = go _ _ _ _ (read-only settings l lent s d t n e .1) (counts-are settings l)
+counted settings l lent s d t n e = let a = read-only settings l lent s d t n e in go _ _ _ _ (a .1) (counts-are settings l (header-sized settings l (a .0 .header) .short))
   where
     go : (s′ d′ t′ n′ : ℕ) → Accepted s′ d′ t′ n′ ≡ Accepted s d t n → Counted (sheet settings l) s′ d′ t′ n′ → Counted (sheet settings l) s d t n
     go s′ d′ t′ n′ h c = record { segments-are = cc; dwells-are = cc; targets-are = cc; length-is = cc }

@@ -9,11 +9,13 @@ use mathlib.Core.List.{List}
 use lib.ListN.{length, getD, take}
 use Rattle.octets.specs.Octets.{Bytes}
 use Rattle.octets.specs.Layout.{over}
+use Rattle.distinct.specs.Distinct.{isAmong, withoutRepeats, hasRepeats}
 use Rattle.format.specs.Edition.{asEdition, mark}
 use Rattle.format.specs.declared.Settings.{Settings}
 use Rattle.format.specs.declared.Check.the-variants.{Passed, Failed}
 use Rattle.format.specs.declared.Answer.the-variants.{Accepted, Refused}
 use Rattle.format.specs.Packet.{version, Segment}
+use Rattle.format.specs.Dwell.{Pair, isSamePair}
 use Rattle.format.specs.Answer.{Outcome, outcome}
 use Rattle.format.specs.Rows.{isNaming, firstRow}
 use Rattle.format.specs.declared.New.{New}
@@ -24,7 +26,7 @@ use Rattle.format.specs.Writer.{listed, isAccepted, writerRows, spell, writerAn
 use Rattle.demands.specs.First.{FirstRow, NoRow}
 use Rattle.demands.specs.Filled.{filledIn}
 use Rattle.demands.specs.Places.{isWithheldAt}
-use Rattle.demands.specs.Counts.{count, isKind, isLeader}
+use Rattle.demands.specs.Counts.{count, isKind, isLeader, pairsOn}
 
 -- an accepted call, and what it leaves
 abbrev pub accepted : ℕ → ℕ → ℕ → ℕ → List ℕ → Outcome
@@ -68,9 +70,10 @@ pub record Demand1 : Type 0 where
 -- ---- Demand 2. "The sheet is the one that the STANAG 4607 tables, as condensed in document 01, give for those bytes": that is the
 -- definition `sheet`, and the counts are the sheet's. "Given a packet buffer long enough, the writer accepts exactly the sheets that
 -- the Edition 3 reading makes of some packet, and returns that packet."
+-- The dwells are counted as request A1 of document 02 says.
 pub record Counted (x : List ℕ) (segments dwells targets n : ℕ) : Type 0 where
   pub segments-are : segments ≡ count isLeader (listed x .records)
-  pub dwells-are : dwells ≡ count (isKind 3) (listed x .records)
+  pub dwells-are : dwells ≡ length (withoutRepeats isSamePair (pairsOn (listed x .records)))
   pub targets-are : targets ≡ count (isKind 4) (listed x .records)
   pub length-is : n ≡ length x
 
@@ -84,6 +87,14 @@ pub record Demand2 : Type 0 where
   pub only-sheets-are-written : (x buffer : List ℕ) (s d t n : ℕ) → Bytes x → write x buffer .answer ≡ Accepted s d t n
       → (l : List ℕ) × Bytes l × (length l ≡ n) × (write x buffer .left ≡ over l buffer)
       × ((lent : List ℕ) → length lent ≡ length x → read (asEdition 3) l lent ≡ accepted s d t (length x) x)
+
+-- ---- Document 02, A1: "the number of different pairs of D2 and D3 in the packet". The pairs that are counted are all of those that
+-- there are, and none of them twice; two pairs are the same just where they are equal.
+pub record DifferentPairs : Type 0 where
+  pub same-are-equal : (p q : Pair) → isSamePair p q ≡ true → p ≡ q
+  pub equal-are-same : (p : Pair) → isSamePair p p ≡ true
+  pub all-of-them : (p : Pair) (ps : List Pair) → isAmong isSamePair p (withoutRepeats isSamePair ps) ≡ isAmong isSamePair p ps
+  pub none-twice : (ps : List Pair) → hasRepeats isSamePair (withoutRepeats isSamePair ps) ≡ false
 
 -- ---- Demand 3
 

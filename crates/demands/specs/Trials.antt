@@ -4,18 +4,20 @@ use Prim.Native.Nat.{ℕ}
 use mathlib.Core.Path.{_≡_}
 use mathlib.Core.Bool.{Bool, true, false}
 use mathlib.Core.List.{List, [], _∷_, _++_, map}
-use lib.ListN.{drop}
+use lib.ListN.{length, drop}
 use Rattle.octets.specs.Octets.{bytes}
+use Rattle.distinct.specs.Distinct.{withoutRepeats}
 use Rattle.format.specs.Edition.{asEdition}
 use Rattle.format.specs.declared.Answer.the-variants.{Accepted}
-use Rattle.format.specs.Samples.{zeros, version3, dwell, d2to9, d24to27, mission, job, freeText, segment}
+use Rattle.format.specs.Dwell.{isSamePair}
+use Rattle.format.specs.Samples.{zeros, version3, dwell, d2to9, d24to27, numbered, mission, job, freeText, segment}
 use Rattle.format.specs.declared.New.the-variants.{Nothing, Found}
 use Rattle.format.specs.New.{firstNew}
 use Rattle.format.specs.Reader.{parsed, sheet, read}
 use Rattle.format.specs.Writer.{listed}
 use Rattle.demands.specs.Filled.{filledIn}
 use Rattle.demands.specs.Places.{isWithheldAt}
-use Rattle.demands.specs.Counts.{count, isKind, isLeader}
+use Rattle.demands.specs.Counts.{count, isKind, isLeader, pairsOn}
 
 -- the packet
 unfoldable pub mixed : List ℕ
@@ -30,8 +32,8 @@ abbrev pub withheldOf : List ℕ → List Bool
 withheldOf is = map (isWithheldAt (listed (sheet (asEdition 3) mixed) .records)) is
 
 -- both readings of it, its filled sheets (filled in from its sheet without the header, each record meets one of another
--- kind), its counts; the places around D27 (151 and 152) and around its mark (160), around J26 (272) and its mark (275); and something
--- new in a second segment
+-- kind), its counts; the places around D27 (151 and 152) and around its mark (160), around J26 (272) and its mark (275); something new
+-- in a second segment; and the pairs of D2 and D3 of two dwells on an Edition 1 sheet
 unfoldable pub trials : List (Type 0)
 trials =
     (read (asEdition 3) mixed (zeros 400) .answer ≡ Accepted 4 1 1 369)
@@ -40,9 +42,11 @@ trials =
     ∷ (filledIn (sheet (asEdition 1) mixed) (sheet (asEdition 3) mixed) ≡ sheet (asEdition 3) mixed)
     ∷ (filledIn (sheet (asEdition 1) mixed) (drop 33 (sheet (asEdition 3) mixed)) ≡ sheet (asEdition 1) mixed)
     ∷ (count isLeader (listed (sheet (asEdition 3) mixed) .records) ≡ 4)
-    ∷ (count (isKind 3) (listed (sheet (asEdition 3) mixed) .records) ≡ 1)
+    ∷ (length (withoutRepeats isSamePair (pairsOn (listed (sheet (asEdition 3) mixed) .records))) ≡ 1)
     ∷ (count (isKind 4) (listed (sheet (asEdition 3) mixed) .records) ≡ 1)
     ∷ (withheldOf (150 ∷ 151 ∷ 152 ∷ 153 ∷ 159 ∷ 160 ∷ 161 ∷ []) ≡ false ∷ true ∷ true ∷ false ∷ false ∷ true ∷ false ∷ [])
     ∷ (withheldOf (271 ∷ 272 ∷ 273 ∷ 274 ∷ 275 ∷ 276 ∷ []) ≡ false ∷ true ∷ false ∷ false ∷ true ∷ false ∷ [])
     ∷ (firstNew 1 (parsed (asEdition 3) (version3 (mission 1 1 ++ job 96 ++ segment 3 [])) .segments) ≡ Found 2 14)
+    ∷ (length (withoutRepeats isSamePair (pairsOn (listed (sheet (asEdition 3) (version3 (numbered 1 2 ++ numbered 1 2))) .records))) ≡ 1)
+    ∷ (pairsOn (listed (sheet (asEdition 1) (version3 (numbered 1 2 ++ numbered 1 3))) .records) ≡ record { d2 = 1; d3 = 2 } ∷ record { d2 = 1; d3 = 3 } ∷ [])
     ∷ []

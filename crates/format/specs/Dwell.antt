@@ -3,8 +3,9 @@
 -- with ± read a two's complement number.
 -- Assumes nothing.
 use Prim.Native.Nat.{ℕ, _+_}
-use mathlib.Core.Bool.{cond}
+use mathlib.Core.Bool.{Bool, _&&_, cond}
 use mathlib.Core.List.{List}
+use lib.Dec.{eqb}
 use lib.IntN.{ℤ}
 use lib.ListN.{drop}
 use Rattle.octets.specs.Octets.{be}
@@ -32,6 +33,19 @@ D± n fields = signedValue 2 dwellWidths n fields
 -- "D5 target count"
 unfoldable pub targetCount : List ℕ → ℕ
 targetCount body = D 5 (dwellFields body)
+
+-- "pairs of D2 and D3" (request A1): what tells a dwell from another one
+pub record Pair : Type 0 where
+  pub d2 : ℕ
+  pub d3 : ℕ
+
+-- that of a dwell with these fields, D2 to D31 at full widths; row 11 asks for both
+abbrev pub pairOf : List ℕ → Pair
+pairOf fields = record { d2 = D 2 fields; d3 = D 3 fields }
+
+-- D2 is the same, and D3 is
+unfoldable pub isSamePair : Pair → Pair → Bool
+isSamePair p q = eqb (p .d2) (q .d2) && eqb (p .d3) (q .d3)
 
 -- "then D5 targets": the body from its first target on
 unfoldable pub targetsOf : List ℕ → List ℕ

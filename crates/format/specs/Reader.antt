@@ -5,6 +5,7 @@ use mathlib.Core.Bool.{cond}
 use mathlib.Core.List.{List, [], _∷_}
 use lib.Dec.{leb, eqb}
 use lib.ListN.{length, drop}
+use Rattle.distinct.specs.Distinct.{withoutRepeats}
 use Rattle.format.specs.declared.Settings.{Settings}
 use Rattle.format.specs.declared.Reading.{Reading}
 use Rattle.format.specs.declared.Check.{Check}
@@ -12,7 +13,7 @@ use Rattle.format.specs.declared.Check.the-variants.{Passed, Failed}
 use Rattle.format.specs.declared.Answer.{Answer}
 use Rattle.format.specs.declared.Answer.the-variants.{Accepted, Refused}
 use Rattle.format.specs.Packet.{version, Segment, sizeAt, segmentAt}
-use Rattle.format.specs.Dwell.{targetCount}
+use Rattle.format.specs.Dwell.{dwellFields, targetCount, Pair, pairOf, isSamePair}
 use Rattle.format.specs.Sheet.{headerRecord, packetRecords, recordBytes}
 use Rattle.format.specs.Answer.{Outcome, outcome, leftBy}
 use Rattle.format.specs.Rows.{firstRow, headerRows, segmentRows}
@@ -35,12 +36,16 @@ parse r (suc k) (x ∷ xs) =
     let l : List ℕ = x ∷ xs in
     onward (firstRow (segmentRows r l)) (segmentAt l) (parse r k (drop (sizeAt l) l))
 
--- "dwells (type 2 segments)"
-unfoldable pub dwellsIn : List Segment → ℕ
-dwellsIn [] = 0
-dwellsIn (s ∷ ss) = cond (eqb (s .type) 2) 1 0 + dwellsIn ss
+-- the pairs of D2 and D3 of the type 2 segments, in their order
+unfoldable pub pairsIn : List Segment → List Pair
+pairsIn [] = []
+pairsIn (s ∷ ss) = cond (eqb (s .type) 2) (pairOf (dwellFields (s .body)) ∷ pairsIn ss) (pairsIn ss)
 
--- "targets": the sum of D5 over the dwells
+-- "The dwell count becomes the number of different pairs of D2 and D3 in the packet" (request A1)
+unfoldable pub dwellsIn : List Segment → ℕ
+dwellsIn ss = length (withoutRepeats isSamePair (pairsIn ss))
+
+-- "targets": the sum of D5 over the type 2 segments
 unfoldable pub targetsIn : List Segment → ℕ
 targetsIn [] = 0
 targetsIn (s ∷ ss) = cond (eqb (s .type) 2) (targetCount (s .body)) 0 + targetsIn ss

@@ -55,6 +55,10 @@ d24to27 d24 d27 = bytes 4 d24 ++ zeros 6 ++ bytes 2 d27
 abbrev pub empty : ℕ → ℕ → List ℕ
 empty mask more = dwell mask (d2to9 0 ++ d24to27 0 0x1234 ++ zeros more)
 
+-- a dwell without targets that announces the required fields alone, with this D2 and this D3; all others are zero
+abbrev pub numbered : ℕ → ℕ → List ℕ
+numbered d2 d3 = dwell 0xFF00_03C0_0000_0000 (bytes 2 d2 ++ bytes 2 d3 ++ zeros 19 ++ d24to27 0 0)
+
 -- the 92-byte packet of document 01: "one dwell with mask FF C0 03 C0 60 00 00 00, D24 and D25 0, D10 and D11 65536, one target −128, −64"
 unfoldable pub printed : List ℕ
 printed =

@@ -1,5 +1,6 @@
 -- Trials of the meanings. `marked` are those that document 01 marks P, in one list; `printedResults` its two packets with a printed
--- result; `editions` and `writing` tell the readings and the writer's rows from likely mistakes.
+-- result; `editions` and `writing` tell the readings and the writer's rows from likely mistakes; `splitDwells` tells the dwells that are
+-- counted from those that are not (request A1).
 -- Assumes nothing.
 use Prim.Native.Nat.{ℕ}
 use mathlib.Core.Path.{_≡_}
@@ -14,7 +15,7 @@ use Rattle.format.specs.declared.Answer.the-variants.{Accepted, Refused}
 use Rattle.format.specs.Answer.{outcome}
 use Rattle.format.specs.Reader.{readingAnswer, sheet, read}
 use Rattle.format.specs.Writer.{write}
-use Rattle.format.specs.Samples.{zeros, version1, version3, segment, empty, printed, northmost, job, mission, freeText}
+use Rattle.format.specs.Samples.{zeros, version1, version3, segment, empty, numbered, printed, northmost, job, mission, freeText}
 
 -- the Edition 1 reading with the program's sheet of 65,536 bytes
 abbrev pub read1 : List ℕ → Answer
@@ -109,4 +110,23 @@ writing =
     ∷ (write (set (sheet (asEdition 3) (version3 (freeText 33))) 125 1) (zeros 90) .answer ≡ Refused 19 0 0)
     ∷ (write (set (sheet (asEdition 3) (version3 (freeText 33))) 93 2) (zeros 90) .answer ≡ Refused 18 0 0)
     ∷ (write (sheet (asEdition 3) printed) (zeros 91) ≡ outcome (Refused 20 0 0) (zeros 91))
+    ∷ []
+
+-- "Split dwells are one dwell" (request A1): segments, dwells, targets and the sheet's length
+unfoldable pub splitDwells : List (Type 0)
+splitDwells =
+    -- one dwell; the same over two segments, and over two with a target each
+    (read3 (version3 (numbered 1 2)) ≡ Accepted 1 1 0 121)
+    ∷ (read3 (version3 (numbered 1 2 ++ numbered 1 2)) ≡ Accepted 2 1 0 209)
+    ∷ (read3 (version3 (drop 32 printed ++ drop 32 printed)) ≡ Accepted 2 1 2 299)
+    -- D2 and D3 each tell dwells apart, in their order and with all their bytes
+    ∷ (read3 (version3 (numbered 1 2 ++ numbered 2 1)) ≡ Accepted 2 2 0 209)
+    ∷ (read3 (version3 (numbered 0 258 ++ numbered 1 2)) ≡ Accepted 2 2 0 209)
+    -- a dwell that goes on behind another one, with the same D2 or the same D3
+    ∷ (read3 (version3 (numbered 1 2 ++ numbered 1 3 ++ numbered 1 2)) ≡ Accepted 3 2 0 297)
+    ∷ (read1 (version3 (numbered 1 2 ++ numbered 2 2 ++ numbered 1 2)) ≡ Accepted 3 2 0 297)
+    -- the same bytes in a range profile are no dwell
+    ∷ (read3 (version3 (numbered 1 2 ++ segment 3 (drop 5 (numbered 1 3)))) ≡ Accepted 2 1 0 195)
+    -- the writer's answer has the same counts
+    ∷ (write (sheet (asEdition 3) (version3 (numbered 1 2 ++ numbered 1 2))) (zeros 128) ≡ outcome (Accepted 2 1 0 128) (version3 (numbered 1 2 ++ numbered 1 2)))
     ∷ []

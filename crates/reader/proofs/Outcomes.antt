@@ -24,11 +24,10 @@ use Rattle.format.specs.Sheet.{headerRecord, recordBytes}
 use Rattle.format.specs.Lengths.{recordLength}
 use Rattle.format.specs.Answer.{outcome, leftBy}
 use Rattle.format.specs.Rows.{firstRow, headerRows}
-use Rattle.format.specs.Reader.{parse, readingOf, parsed, sheet, segmentsAnswer, readingAnswer, read}
+use Rattle.format.specs.Reader.{parse, dwellsIn, readingOf, parsed, sheet, segmentsAnswer, readingAnswer, read}
 use Rattle.format.proofs.Acceptance.{no-refusal, same-length, Acceptable, answerOf, accepted-only, read-when}
 use Rattle.format.proofs.Lengths.{length-header, length-sheet}
-use Rattle.segments.specs.InnerWalk.{noDwells, answerFrom}
-use Rattle.segments.proofs.Counting.{dwells-are}
+use Rattle.segments.specs.InnerWalk.{answerFrom, restAnswer}
 
 -- ---- the answer
 
@@ -54,19 +53,17 @@ module _ (settings : Settings) (l : List ℕ) where
   answer-header number field e = sym (ap (byHeader (length (sheet settings l))) e)
 
   -- none does: the answer is that of the walk, to which the packet behind its header was handed
-  abbrev walked : Reading → List ℕ → Answer
-  walked r m = answerFrom r (parse r (length m) m) 0 noDwells 0 (recordLength 1)
-
-  pub answer-walked : firstRow (headerRows settings l) ≡ Passed → (r : Reading) (m : List ℕ) {a : Answer} → r ≡ readingOf settings l → m ≡ drop 32 l → a ≡ walked r m → a ≡ whole
+  pub answer-walked : firstRow (headerRows settings l) ≡ Passed → (r : Reading) (m : List ℕ) {a : Answer} → r ≡ readingOf settings l → m ≡ drop 32 l → a ≡ restAnswer r m → a ≡ whole
   unfolding readingAnswer answerFrom parsed
   answer-walked e r m q p h =
       h
-      ∙ ap₂ (λ (r : Reading) (x : List ℕ). walked r x) q p
+      ∙ ap₂ (λ (r : Reading) (x : List ℕ). restAnswer r x) q p
       ∙ go (parsed settings l .ending)
       ∙ sym (ap (byHeader (length (sheet settings l))) e)
     where
-      go : (c : Check) → answerFrom (readingOf settings l) (record { segments = parsed settings l .segments; ending = c }) 0 noDwells 0 (recordLength 1) ≡ byEnding (length (sheet settings l)) c
-      go Passed = rw (dwells-are (parsed settings l .segments), just (length (sheet settings l)), length-sheet settings l) (simp zero-add)
+      go : (c : Check) → let ss = parsed settings l .segments in
+          answerFrom (readingOf settings l) (record { segments = ss; ending = c }) 0 (dwellsIn ss) 0 (recordLength 1) ≡ byEnding (length (sheet settings l)) c
+      go Passed = rw (just (length (sheet settings l)), length-sheet settings l) (simp zero-add)
       go (Failed number field) = rw zero-add
 
 -- ---- the outcome

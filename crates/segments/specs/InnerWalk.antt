@@ -1,12 +1,13 @@
 -- What the walk that checks a packet's segments finds: of one segment, and of all. Contracts of this crate cite these; a reading's
 -- contract cites `read` of format alone.
 -- Assumes nothing.
-use Prim.Native.Nat.{ℕ, _+_, _≤_}
+use Prim.Native.Nat.{ℕ, _+_, _/_, _≤_}
 use mathlib.Core.Path.{_≡_}
 use mathlib.Core.Bool.{cond}
 use mathlib.Core.List.{List, [], _∷_}
-use lib.Dec.{eqb}
-use lib.ListN.{length}
+use lib.Dec.{leb, eqb}
+use lib.ListN.{length, drop}
+use Rattle.octets.specs.Octets.{be}
 use Rattle.format.specs.declared.Settings.{Settings}
 use Rattle.format.specs.declared.Reading.{Reading}
 use Rattle.format.specs.declared.Check.{Check}
@@ -16,8 +17,9 @@ use Rattle.format.specs.declared.Answer.the-variants.{Accepted, Refused}
 use Rattle.format.specs.Packet.{Segment, typeAt, sizeAt, bodyAt}
 use Rattle.format.specs.Dwell.{targetCount}
 use Rattle.format.specs.Sheet.{segmentRecords, packetRecords, recordBytes}
+use Rattle.format.specs.Lengths.{recordLength}
 use Rattle.format.specs.Rows.{firstRow, headerRows, bodyRows, segmentRows}
-use Rattle.format.specs.Reader.{Parsed, parse, parsed, targetsIn}
+use Rattle.format.specs.Reader.{Parsed, parse, parsed, dwellsIn, targetsIn}
 use Rattle.segments.specs.declared.Dwells.{Dwells}
 use Rattle.segments.specs.declared.Found.{Found}
 use Rattle.segments.specs.declared.Found.the-variants.{Good, Bad}
@@ -46,30 +48,51 @@ foundBy r l (Failed number field) = Bad number field
 unfoldable pub foundAt : Reading → List ℕ → Found
 foundAt r l = foundBy r l (firstRow (segmentRows r l))
 
--- ---- the dwells, which are counted over all segments by a fold of its own
+-- ---- the dwells: what the walk keeps of the pairs of D2 and D3, by a fold of its own over all segments
+
+-- D2 and D3 as one number: they stand behind the mask, with two bytes each
+abbrev pub pairNumber : List ℕ → ℕ
+pairNumber b = be 4 (drop 8 b)
+
+-- those of the dwells, in their order
+unfoldable pub pairNumbers : List Segment → List ℕ
+pairNumbers [] = []
+pairNumbers (s ∷ ss) = cond (eqb (s .type) 2) (pairNumber (s .body) ∷ pairNumbers ss) (pairNumbers ss)
 
 -- before the first segment
 abbrev pub noDwells : Dwells
-noDwells = record { count = 0 }
+noDwells = record { rises = 0; falls = 0; above = 0 }
+
+-- past a dwell with this number: it rose where it is above the last one, and it fell where it is below
+unfoldable pub pastPair : Dwells → ℕ → Dwells
+pastPair d p = record { rises = d .rises + cond (leb (d .above) p) 1 0; falls = d .falls + cond (leb (d .above) (p + 1)) 0 1; above = p + 1 }
 
 -- past a segment with this type and body
 unfoldable pub past : Dwells → ℕ → List ℕ → Dwells
-past d type b = record { count = d .count + cond (eqb type 2) 1 0 }
+past d type b = cond (eqb type 2) (pastPair d (pairNumber b)) d
 
 -- past all of these
 unfoldable pub pastAll : Dwells → List Segment → Dwells
 pastAll d [] = d
 pastAll d (s ∷ ss) = pastAll (past d (s .type) (s .body)) ss
 
--- no more dwells than n segments have
-abbrev pub Among : ℕ → Dwells → Type 0
-Among n d = d .count ≤ n
+-- so many rises at most, and so many falls
+abbrev pub AtMost : ℕ → Dwells → Type 0
+AtMost n d = (d .rises ≤ n) × (d .falls ≤ n)
 
 -- ---- all segments
 
--- l is a packet behind its header: it is no longer than a packet may be, and no row applies to a segment of it
+-- as many bytes as a packet may have, 65,536, without its header's 32
+abbrev pub longestRest : ℕ
+longestRest = 65504
+
+-- as many dwells as l has room for, at 48 bytes each: 5 of the segment's header, 8 of the mask, 35 of the required fields
+abbrev pub mostDwells : List ℕ → ℕ
+mostDwells l = length l / 48
+
+-- l is a packet behind its header: it is no longer than that may be, and no row applies to a segment of it
 pub record CheckedAll (r : Reading) (l : List ℕ) : Type 0 where
-  pub short : length l ≤ 65536
+  pub short : length l ≤ longestRest
   pub ending : parse r (length l) l .ending ≡ Passed
 
 -- l is a whole packet, and no row applies to it
@@ -77,14 +100,22 @@ pub record CheckedPacket (settings : Settings) (l : List ℕ) : Type 0 where
   pub header : firstRow (headerRows settings l) ≡ Passed
   pub ending : parsed settings l .ending ≡ Passed
 
+-- the segments of l
+abbrev pub segmentsOf : Reading → List ℕ → List Segment
+segmentsOf r l = parse r (length l) l .segments
+
 -- the bytes of the records of all segments of l
 abbrev pub allBytes : Reading → List ℕ → List ℕ
-allBytes r l = recordBytes (packetRecords r (parse r (length l) l .segments))
+allBytes r l = recordBytes (packetRecords r (segmentsOf r l))
 
--- the answer but for row 16, after so many segments, these dwells, so many targets and bytes of the sheet
-unfoldable pub answerFrom : Reading → Parsed → ℕ → Dwells → ℕ → ℕ → Answer
+-- the answer but for row 16, after so many segments, targets and bytes of the sheet, where the packet has so many dwells in all
+unfoldable pub answerFrom : Reading → Parsed → ℕ → ℕ → ℕ → ℕ → Answer
 answerFrom r p segments dwells targets n =
     elim (p .ending) [
-      | Passed ↦ Accepted (segments + length (p .segments)) (pastAll dwells (p .segments) .count) (targets + targetsIn (p .segments)) (n + length (recordBytes (packetRecords r (p .segments))))
+      | Passed ↦ Accepted (segments + length (p .segments)) dwells (targets + targetsIn (p .segments)) (n + length (recordBytes (packetRecords r (p .segments))))
       | Failed number field ↦ Refused number (segments + length (p .segments) + 1) field
     ]
+
+-- that of l, a packet behind its header
+abbrev pub restAnswer : Reading → List ℕ → Answer
+restAnswer r l = answerFrom r (parse r (length l) l) 0 (dwellsIn (segmentsOf r l)) 0 (recordLength 1)

@@ -2,13 +2,14 @@
 ghost use mathlib.Core.Path.{_≡_};
 ghost use Prim.Native.Nat.{_*_, _≤_};
 ghost use lib.ListN.{length};
+ghost use lib.Seq.{sets};
 ghost use Rattle.format.specs.declared.Check.the-variants.{Passed};
 ghost use Rattle.format.specs.Packet.{isKnown, typeAt, sizeAt, bodyAt};
 ghost use Rattle.format.specs.Sheet.{pieceCount};
 ghost use Rattle.format.specs.Lengths.{recordLength};
 ghost use Rattle.format.specs.Rows.{firstRow, bodyRows, segmentRows};
-ghost use Rattle.format.specs.Reader.{parse};
-ghost use Rattle.segments.specs.InnerWalk.{Checked, bytesOf, targetsOfType, foundAt, noDwells, past, Among, answerFrom};
+ghost use Rattle.format.specs.Reader.{dwellsIn};
+ghost use Rattle.segments.specs.InnerWalk.{Checked, bytesOf, targetsOfType, foundAt, pairNumbers, noDwells, pastPair, past, pastAll, AtMost, longestRest, mostDwells, CheckedAll, segmentsOf, restAnswer};
 use format::Answer;
 use format::Check;
 
@@ -130,33 +131,127 @@ pub fn segment_at(r: format::Reading, l: &[u8]) -> Found
     }
 }
 
-// What the walk knows of the dwells that it has passed.
+// What the walk knows of the dwells that it has passed, by the number that D2 and D3 of each spell together.
 pub struct Dwells {
-    pub count: usize,
+    // How often it rose, and how often it fell; the first is a rise.
+    pub rises: usize,
+    pub falls: usize,
+    // One more than the last; 0 before the first.
+    pub above: u64,
+}
+
+// Where D2 and D3 stand in a dwell's segment: behind its header of 5 bytes and the mask.
+const PAIR: usize = 13;
+
+// The same past a dwell with this pair of D2 and D3.
+fn pair_past(dwells: Dwells, pair: u32) -> Dwells
+    requires { ⌜ AtMost 65536 dwells ⌝ }
+    ensures { λ d. ⌜ d ≡ pastPair dwells pair ⌝ }
+{
+    let number = pair as u64;
+    let above = number + 1;
+    let risen = if dwells.above <= number { 1 } else { 0 };
+    let fallen = if dwells.above <= above { 0 } else { 1 };
+    Dwells {
+        rises: dwells.rises + risen,
+        falls: dwells.falls + fallen,
+        above,
+    }
 }
 
 // The same past the segment at the front of l, to which no row applies.
 fn dwells_past(r: format::Reading, dwells: Dwells, l: &[u8]) -> Dwells
-    requires { ⌜ (firstRow (segmentRows r (now l)) ≡ Passed) × Among 65536 dwells ⌝ }
+    requires { ⌜ (firstRow (segmentRows r (now l)) ≡ Passed) × AtMost 65536 dwells ⌝ }
     ensures { λ d. ⌜ d ≡ past dwells (typeAt (now (l .entry))) (bodyAt (now (l .entry))) ⌝ }
 {
     if l[0] == 2 {
-        Dwells {
-            count: dwells.count + 1,
-        }
+        pair_past(dwells, octets::get_u32(l, PAIR))
     } else {
         dwells
     }
 }
 
+// The pairs of D2 and D3 of all dwells of l, the packet behind its header, once no row applies; and how many they are. The contract
+// alone needs r: it says by which reading no row applies.
+fn pairs_of(r: format::Reading, l: &[u8], o: &mut [u32]) -> usize
+    requires { ⌜ CheckedAll r (now l) × (mostDwells (now l) ≤ length (now o)) ⌝ }
+    ensures { λ n. ⌜ (n ≡ length (pairNumbers (segmentsOf r (now (l .entry))))) × (n ≤ length (now (o .entry))) ⌝ }
+    ensures { λ _. ⌜ now (o .exit) ≡ sets (now (o .entry)) 0 (pairNumbers (segmentsOf r (now (l .entry)))) ⌝ }
+{
+    let mut at = 0;
+    let mut n = 0;
+    while at < l.len() {
+        let t = &l[at..];
+        if t[0] == 2 {
+            o[n] = octets::get_u32(t, PAIR);
+            n += 1;
+        }
+        at += size_at(t);
+    }
+    n
+}
+
+// How many of them are different, by way of a lent array.
+fn different_pairs(r: format::Reading, l: &[u8], o: &mut [u32]) -> usize
+    requires { ⌜ CheckedAll r (now l) × (mostDwells (now l) ≤ length (now o)) ⌝ }
+    ensures { λ n. ⌜ n ≡ dwellsIn (segmentsOf r (now (l .entry))) ⌝ }
+{
+    let n = pairs_of(r, l, o);
+    distinct::count_different(&o[..n])
+}
+
+// A segment of a dwell takes so many bytes at least: those of a mask and of the required fields, behind the segment's header.
+const LEAST_DWELL: usize = 48;
+
+// As many dwells as a packet has room for.
+const MOST_DWELLS: usize = (format::LONGEST_PACKET - format::HeaderRecord::LEN) / LEAST_DWELL;
+
+// So few that the array for them costs next to nothing: an array is cleared before it is lent.
+const FEW_DWELLS: usize = 32;
+
+fn different_of_few(r: format::Reading, l: &[u8]) -> usize
+    requires { ⌜ CheckedAll r (now l) × (mostDwells (now l) ≤ 32) ⌝ }
+    ensures { λ n. ⌜ n ≡ dwellsIn (segmentsOf r (now (l .entry))) ⌝ }
+{
+    let mut pairs = [0u32; FEW_DWELLS];
+    different_pairs(r, l, &mut pairs)
+}
+
+fn different_of_many(r: format::Reading, l: &[u8]) -> usize
+    requires { ⌜ CheckedAll r (now l) ⌝ }
+    ensures { λ n. ⌜ n ≡ dwellsIn (segmentsOf r (now (l .entry))) ⌝ }
+{
+    let mut pairs = [0u32; MOST_DWELLS];
+    different_pairs(r, l, &mut pairs)
+}
+
+// The dwells of l, by what the walk knows of them at its end. D2 and D3 are running counts: where they never fell, each rise is a further
+// dwell. Only where they did are they held against each other.
+fn dwell_count(r: format::Reading, l: &[u8], dwells: Dwells) -> usize
+    requires { ⌜ CheckedAll r (now l) × (dwells ≡ pastAll noDwells (segmentsOf r (now l))) ⌝ }
+    ensures { λ n. ⌜ n ≡ dwellsIn (segmentsOf r (now (l .entry))) ⌝ }
+{
+    if dwells.falls == 0 {
+        return dwells.rises;
+    }
+    if l.len() / LEAST_DWELL <= FEW_DWELLS {
+        return different_of_few(r, l);
+    }
+    different_of_many(r, l)
+}
+
 // The answer but for row 16, of l, the packet behind its header.
 pub fn check(r: format::Reading, l: &[u8]) -> Answer
-    requires { ⌜ length (now l) ≤ 65536 ⌝ }
-    ensures { λ a. ⌜ a ≡ answerFrom r (parse r (length (now (l .entry))) (now (l .entry))) 0 noDwells 0 (recordLength 1) ⌝ }
+    requires { ⌜ length (now l) ≤ longestRest ⌝ }
+    ensures { λ a. ⌜ a ≡ restAnswer r (now (l .entry)) ⌝ }
 {
     let mut at = 0;
     let mut segments = 0;
-    let mut dwells = Dwells { count: 0 };
+    let mut dwells = Dwells {
+        rises: 0,
+        falls: 0,
+        above: 0,
+    };
     let mut targets = 0;
     let mut length = format::HeaderRecord::WHOLE;
     while at < l.len() {
@@ -174,5 +269,5 @@ pub fn check(r: format::Reading, l: &[u8]) -> Answer
             }
         }
     }
-    Answer::Accepted(segments, dwells.count, targets, length)
+    Answer::Accepted(segments, dwell_count(r, l, dwells), targets, length)
 }

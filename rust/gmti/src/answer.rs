@@ -14,9 +14,9 @@ pub struct Answer {
     pub field: u32,
     /// How many segments the packet has.
     pub segments: u32,
-    /// How many of them are dwells.
+    /// How many dwells: different pairs of D2 and D3 in the segments of type 2, so that a dwell split over several counts once.
     pub dwells: u32,
-    /// How many targets its dwells have.
+    /// How many targets the segments of type 2 have together.
     pub targets: u32,
     /// The length of the sheet; from the writer, of the packet.
     pub length: u32,

@@ -7,8 +7,8 @@ use gmti::{Answer, LONGEST_PACKET, LONGEST_SHEET};
 use std::hint::black_box;
 use std::time::Instant;
 use testing::generator::spelling::{push, Packet, Segment};
-use testing::generator::tables::{bit, width};
-use testing::generator::Random;
+use testing::generator::tables::{bit, width, MOST_DWELLS};
+use testing::generator::{valid, Random};
 use testing::{by_hand, independent};
 
 const ROUNDS: usize = 2000;
@@ -117,6 +117,11 @@ fn full(mask: u64) -> Vec<u8> {
     dwell(mask, ((LONGEST_PACKET - empty) / each) as u64)
 }
 
+/// A packet of dwells without targets that have these pairs of D2 and D3.
+fn dwells(pairs: impl Iterator<Item = u32>) -> Vec<u8> {
+    valid::packet_by_pairs(&mut Random::new(7), &pairs.collect::<Vec<_>>()).bytes()
+}
+
 /// The 92 bytes of document 01's printed trial.
 fn printed() -> Vec<u8> {
     let mut body = SMALL.to_be_bytes().to_vec();
@@ -140,6 +145,13 @@ fn texts() -> Vec<u8> {
     packet(segments)
 }
 
+/// As many dwells as fit, by their pairs in rising order.
+const RISING: &str = "1,364 dwells, rising";
+/// The same in falling order. Once a pair falls, the verified reader holds each against all behind it, whatever the order.
+const FALLING: &str = "1,364 dwells, falling";
+/// As many segments of one dwell. The same pair never falls, so that this costs what rising costs.
+const ALIKE: &str = "1,364 dwells, all alike";
+
 fn cases() -> Vec<Case> {
     let goal = |name, packet| Case { is_goal: true, ..Case::new(name, packet) };
     vec![
@@ -151,6 +163,9 @@ fn cases() -> Vec<Case> {
         Case::new("50 targets, sparse mask", dwell(SPARSE, 50)),
         Case::new("free text and opaque", texts()),
         Case::new("bare header", packet(Vec::new())),
+        Case::new(RISING, dwells(0..MOST_DWELLS)),
+        Case::new(FALLING, dwells((0..MOST_DWELLS).rev())),
+        Case::new(ALIKE, dwells((0..MOST_DWELLS).map(|_| 7))),
     ]
 }
 
@@ -368,7 +383,10 @@ fn print_growth(rounds: usize) {
     }
 }
 
-/// The ratios of the bests over all runs, in each case that the goals are for.
+/// The most that as many dwells may take, falling or all alike, over those in rising order.
+const ORDER_GOAL: f64 = 3.0;
+
+/// The ratios of the bests over all runs, in each case that the goals are for; and those of many dwells over as many in rising order.
 fn print_goals(runs: &[Vec<Measured>]) {
     println!("## The goals\n");
     let cases: Vec<usize> = (0..runs[0].len()).filter(|case| runs[0][*case].case.is_goal).collect();
@@ -378,6 +396,18 @@ fn print_goals(runs: &[Vec<Measured>]) {
         println!("| {}: at most {} | {} |", ratio.name, ratio.goal, cells.collect::<Vec<_>>().join(" | "));
     }
     println!();
+    print_head("Goal", &["verified read"]);
+    for order in [FALLING, ALIKE] {
+        let cell = goal_cell(ORDER_GOAL, runs.iter().map(|run| best(run, order) / best(run, RISING)).collect());
+        println!("| {order} / {RISING}: at most {ORDER_GOAL} | {cell} |");
+    }
+    println!();
+}
+
+/// The verified reader's best time in the case of this name.
+fn best(run: &[Measured], name: &str) -> f64 {
+    let measured = run.iter().find(|measured| measured.case.name == name).expect("a case of this name");
+    measured.times[VERIFIED_READ].best
 }
 
 /// The median of the runs, bold where it is above the goal, with the least and the greatest where these differ.

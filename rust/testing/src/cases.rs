@@ -5,8 +5,9 @@ use crate::generator::faults::Fault;
 use crate::generator::sheet_faults::SheetFault;
 use crate::generator::sheets::{self, AimedSheet};
 use crate::generator::spelling::Segment;
+use crate::generator::tables::MOST_DWELLS;
 use crate::generator::valid::{Pair, Style};
-use crate::generator::{damage, valid, Random};
+use crate::generator::{damage, pairs, valid, Random};
 use gmti::{Answer, LONGEST_PACKET};
 
 /// The kinds of case, by turns.
@@ -92,8 +93,12 @@ pub fn accepted(comparison: &mut Comparison, packet: &[u8]) -> Compared<()> {
     comparison.expect(newer, answer_of(newer, None), read_call(3, packet))
 }
 
-/// A packet of 65,535 to 65,537 bytes: segments of any type, and one that fills it, of targets or of bytes.
+/// A packet of 65,535 to 65,537 bytes: segments of any type, and one that fills it, of targets or of bytes. Or one full of dwells.
 fn long_packet(comparison: &mut Comparison, random: &mut Random) -> Compared<()> {
+    if random.chance(25) {
+        let pairs = pairs::run(random, MOST_DWELLS as usize);
+        return accepted(comparison, &valid::packet_by_pairs(random, &pairs).bytes());
+    }
     let length = random.pick([65_535, 65_536, 65_536, 65_537]);
     let style = Style::any(random);
     let count = random.below(20);

@@ -1,5 +1,5 @@
 //! What a run of comparisons has seen, so that a run that tries too little can be told.
-use crate::generator::records::split;
+use crate::generator::records::{split, Record};
 use gmti::Answer;
 use std::collections::BTreeMap;
 use std::fmt;
@@ -21,7 +21,26 @@ pub struct Tally {
     pub fields: BTreeMap<(u32, u32), u64>,
     /// Records by kind, on the sheets of accepted packets; 0 is unused.
     pub records: [u64; 11],
+    /// Those sheets by what the pairs of D2 and D3 on them do, in the order of [`LIKENESSES`]; a sheet counts once for each.
+    pub pairs: [u64; LIKENESSES.len()],
 }
+
+/// D2 and D3.
+type Pair = [u32; 2];
+
+/// Whether something holds of a pair, given those before it.
+type Likeness = fn(&[Pair], Pair) -> bool;
+
+/// What the pair of a dwell can be to those before it on its sheet. Each tells some wrong count of dwells from the right one.
+pub const LIKENESSES: [(&str, Likeness); 7] = [
+    ("above the last", |before, pair| before.last().is_some_and(|last| *last < pair)),
+    ("below the last", |before, pair| before.last().is_some_and(|last| *last > pair)),
+    ("the last again", |before, pair| before.last() == Some(&pair)),
+    ("an earlier again", |before, pair| before.last() != Some(&pair) && before.contains(&pair)),
+    ("another D3 alone", |before, [d2, d3]| before.iter().any(|other| other[0] == d2 && other[1] != d3)),
+    ("another D2 alone", |before, [d2, d3]| before.iter().any(|other| other[0] != d2 && other[1] == d3)),
+    ("D2 and D3 swapped", |before, [d2, d3]| d2 != d3 && before.contains(&[d3, d2])),
+];
 
 /// The rows whose answers name a field.
 const ROWS_WITH_FIELDS: [u32; 6] = [5, 10, 11, 13, 14, 15];
@@ -50,10 +69,15 @@ impl Tally {
         count(&mut self.writer, answer);
     }
 
-    /// Counts the records of a sheet.
+    /// Counts the records of a sheet, and what its pairs of D2 and D3 do.
     pub fn records(&mut self, sheet: &[u8]) {
-        for record in split(sheet) {
+        let records = split(sheet);
+        for record in &records {
             self.records[usize::from(record.kind)] += 1;
+        }
+        let pairs: Vec<Pair> = records.iter().filter(|record| record.kind == 3).map(Record::pair).collect();
+        for (count, (_, is_like)) in self.pairs.iter_mut().zip(LIKENESSES) {
+            *count += u64::from((0..pairs.len()).any(|at| is_like(&pairs[..at], pairs[at])));
         }
     }
 
@@ -107,6 +131,8 @@ impl fmt::Display for Tally {
             writeln!(f, "fields of row {row}: {}", fields.join(" "))?;
         }
         let records: Vec<String> = (1..=10).map(|kind| format!("{kind}: {}", self.records[kind])).collect();
-        write!(f, "records by kind {}", records.join(", "))
+        writeln!(f, "records by kind {}", records.join(", "))?;
+        let pairs: Vec<String> = LIKENESSES.iter().zip(self.pairs).map(|((name, _), count)| format!("{name}: {count}")).collect();
+        write!(f, "sheets by pairs of D2 and D3 {}", pairs.join(", "))
     }
 }

@@ -21,7 +21,7 @@ fn valid_packets() {
         held(cases::accepted(&mut comparison, &packet));
     }
     let tally = comparison.tally;
-    assert!(tally.records[1..].iter().all(|count| *count > 100), "{tally}");
+    assert!(tally.records[1..].iter().chain(&tally.pairs).all(|count| *count > 100), "{tally}");
     assert!(tally.older[0] > 1000 && tally.newer[0] > 1000 && tally.older[15] > 1000, "{tally}");
     assert!(tally.older[16] > 1000 && tally.newer[16] > 1000 && tally.writer[20] > 1000, "{tally}");
 }

@@ -4,6 +4,7 @@ use std::collections::BTreeSet;
 use std::fs;
 use std::path::{Path, PathBuf};
 use std::process::Command;
+use testing::generator::records::{split, Record};
 use testing::{independent, root};
 
 fn samples() -> PathBuf {
@@ -102,6 +103,23 @@ fn packets_of_the_recording_read_as_the_table_says() {
         at += length;
     }
     assert_eq!(at, recording.len());
+}
+
+/// The segments of split_dwell.gmti have one pair of D2 and D3. README.md shows the answer and the positions, as `gmti_read` prints them.
+#[test]
+fn readme_shows_answer_and_positions_of_the_split_dwell() {
+    let packet = bytes_of("split_dwell.gmti");
+    for reader in [gmti::read, independent::read] {
+        let (answer, sheet) = reading(reader, 3, &packet);
+        let records = split(&sheet[..answer.length as usize]);
+        let pairs: Vec<[u32; 2]> = records.iter().filter(|record| record.kind == 3).map(Record::pair).collect();
+        assert_eq!(pairs, [[1, 7], [1, 7]]);
+        let targets = records.iter().filter(|record| record.kind == 4);
+        let positions = targets.map(|target| format!("    {} {}\n", target.number(36, 4) as i32, target.number(40, 4)));
+        let shown = format!("    {answer}\n{}", positions.collect::<String>());
+        let readme = fs::read_to_string(samples().join("README.md")).unwrap();
+        assert!(readme.contains(&format!("`split_dwell.gmti`: two segments, one dwell, five targets.\n\n{shown}\n")), "{shown}");
+    }
 }
 
 /// D27 with its mark and J26 with its mark, of a sheet whose second record is a dwell and whose last is a job.

@@ -23,7 +23,7 @@ fn sheets_of_packets() {
         held(comparison.sheet(&sheet));
     }
     let tally = comparison.tally;
-    assert!(tally.records[1..].iter().all(|count| *count > 100), "{tally}");
+    assert!(tally.records[1..].iter().chain(&tally.pairs).all(|count| *count > 100), "{tally}");
     // Row 19 refuses the Edition 1 sheets on which something is withheld.
     assert!(tally.writer[0] > 1000 && tally.writer[19] > 1000 && tally.writer[20] > 1000, "{tally}");
     assert_eq!(tally.rows_written(), [19, 20], "{tally}");

@@ -34,7 +34,7 @@ here : (c : tie.After-size-at Inv-loop μ-loop) → let i = c .before .before .b
 here c =
     let i = c .before .before .before in
     let s = i .before .before .before in
-    turn (s .args .r) (now (s .args .l)) (i .loop .at) (i .loop .inv .left) (s .pre .0 .short) (c .before .before .loop-test .taken) _ (c .size-at .ensures)
+    turn (s .args .r) (now (s .args .l)) (i .loop .at) (i .loop .inv .left) (omega (arith, s .pre .0 .short)) (c .before .before .loop-test .taken) _ (c .size-at .ensures)
 
 loop-holds : tie.Need-loop-holds Inv-loop μ-loop
 loop-holds c =

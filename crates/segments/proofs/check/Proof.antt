@@ -1,8 +1,8 @@
--- `segments::check` meets its contract. The loop keeps that the answer from here on, with the counts so far, is the answer of the whole.
+-- `segments::check` meets its contract. The loop keeps that the walk from here on, with the counts so far, comes to the answer of the whole.
 -- Assumes nothing.
 use borrow.Author.Needs.{needs}
 use Prim.Native.Nat.{ℕ, _+_, _-_, _*_, _≤_, zero-le}
-use mathlib.Core.Path.{_≡_, refl, sym, _∙_}
+use mathlib.Core.Path.{ap, _∙_}
 use mathlib.Core.List.{List}
 use native.Mathlib.Omega.{arith}
 use denote.Ref.{now}
@@ -10,25 +10,22 @@ use lib.ListN.{length, drop, length-drop}
 use Rattle.octets.proofs.ByteLists.{drop-bytes}
 use Rattle.octets.proofs.Parts.{tail-is}
 use Rattle.format.specs.declared.Reading.{Reading}
+use Rattle.format.specs.declared.Answer.the-variants.{Accepted}
 use Rattle.format.specs.Lengths.{recordLength}
-use Rattle.format.specs.Reader.{parse}
 use Rattle.segments.specs.declared.Dwells.{Dwells}
-use Rattle.segments.specs.InnerWalk.{noDwells, Among, answerFrom}
-use Rattle.segments.proofs.Counting.{past-among}
-use Rattle.segments.proofs.Walking.{most, IsGood, here-good, Fit, fit, from-good, from-bad, from-end}
+use Rattle.segments.specs.InnerWalk.{AtMost}
+use Rattle.segments.proofs.Counting.{past-at-most}
+use Rattle.segments.proofs.Walking.{most, IsGood, Fit, fit, Walked, Ended, walk-start, here-good, walk-bad, walk-good, walk-end}
 use Rattle.segments.proofs.check.Statement.{statement}
 use Rattle.segments.proofs.check.Tie as tie
 
--- k bounds the segments that are left
+-- what the walk keeps, and that no sum is too large
 pub record Counted (r : Reading) (l : List ℕ) (at segments : ℕ) (dwells : Dwells) (targets n : ℕ) : Type 0 where
-  pub k : ℕ
-  pub within : at ≤ length l
-  pub fuel : length l ≤ at + k
+  pub walked : Walked r l at segments dwells targets n
   pub segments-le : segments ≤ at
-  pub dwells-le : Among segments dwells
+  pub dwells-le : AtMost segments dwells
   pub targets-le : targets ≤ 65535 * at
   pub length-le : n ≤ recordLength 1 + most * at
-  pub rest : answerFrom r (parse r k (drop at l)) segments dwells targets n ≡ answerFrom r (parse r (length l) l) 0 noDwells 0 (recordLength 1)
 
 abbrev Inv-loop : tie.InvT-loop
 Inv-loop r l at₀ segments₀ dwells₀ targets₀ length₀ at segments dwells targets n = Counted r l at segments dwells targets n
@@ -45,8 +42,8 @@ start c = place c .before .before
 
 loop-holds : tie.Need-loop-holds Inv-loop μ-loop
 loop-holds c =
-    let l = now (c .before .args .l) in
-    record { k = length l; within = zero-le; fuel = omega arith; segments-le = zero-le; dwells-le = zero-le; targets-le = zero-le; length-le = omega arith; rest = refl }
+    let a = c .before .args in
+    record { walked = walk-start (a .r) (now (a .l)); segments-le = zero-le; dwells-le = (zero-le, zero-le); targets-le = zero-le; length-le = omega arith }
 
 sub-t : tie.Need-sub-t Inv-loop μ-loop
 sub-t c = omega arith
@@ -63,22 +60,21 @@ segment-at-requires c κs =
 add-t19 : tie.Need-add-t19 Inv-loop μ-loop
 add-t19 c =
     let i = c .before .before .before .before .before .before in
-    omega (arith, i .loop .inv .segments-le, i .loop .inv .within, i .before .before .pre)
+    omega (arith, i .loop .inv .segments-le, i .loop .inv .walked .within, i .before .before .pre)
 
 returns : tie.Need-returns Inv-loop μ-loop
 returns c =
     let found = c .before .before .before in
     let l = found .before .before .before .loop in
-    let s = found .before .before .before .before .before in
-    from-bad (s .args .r) (now (s .args .l)) _ (l .at) (tail-is (l .at) (now (s .args .l))) (found .segment-at .ensures) (l .inv .k) (found .before .before .loop-test .taken) (omega (arith, l .inv .fuel)) (l .segments) (l .dwells) (l .targets) (l .length) _ _ (c .before .number .given .1)
-    ∙ l .inv .rest
+    let a = found .before .before .before .before .before .args in
+    walk-bad (a .r) (now (a .l)) (l .at) (found .segment-at .ensures) (l .inv .walked) (found .before .before .loop-test .taken) _ _ (c .before .number .given .1)
 
 -- the segment is good
 good : (c : tie.After-known-told2 Inv-loop μ-loop) → let g = c .before .size .given .0 in
     IsGood (start c .args .r) (drop (place c .loop .at) (now (start c .args .l))) (g .0) (g .1 .0) (g .1 .1 .0)
 good c =
-    let l = now (start c .args .l) in
-    here-good (start c .args .r) l _ (place c .loop .at) (tail-is (place c .loop .at) l) (c .before .before .before .segment-at .ensures) _ _ _ (c .before .size .given .1)
+    let a = start c .args in
+    here-good (a .r) (now (a .l)) (place c .loop .at) (c .before .before .before .segment-at .ensures) _ _ _ (c .before .size .given .1)
 
 -- and adds no more than this
 sized : (c : tie.After-known-told2 Inv-loop μ-loop) → let g = c .before .size .given .0 in
@@ -90,21 +86,21 @@ sized c =
     fit (start c .args .r) (drop at l) _ _ _ h (drop-bytes at l (λ i. place c .before .shared-slice-known .given i .fits)) (good c)
 
 add-segments : tie.Need-add-segments Inv-loop μ-loop
-add-segments c = omega (arith, place c .loop .inv .segments-le, place c .loop .inv .within, start c .pre)
+add-segments c = omega (arith, place c .loop .inv .segments-le, place c .loop .inv .walked .within, start c .pre)
 
 dwells-past-requires : tie.Need-dwells-past-requires Inv-loop μ-loop
 dwells-past-requires c κs =
     let i = place c .loop .inv in
-    (rw (tail-is (place c .loop .at) (now (start c .args .l))) (good c .rows), omega (arith, i .dwells-le, i .segments-le, i .within, start c .pre))
+    (rw (tail-is (place c .loop .at) (now (start c .args .l))) (good c .rows), (omega (arith, i .dwells-le .0, i .segments-le, i .walked .within, start c .pre), omega (arith, i .dwells-le .1, i .segments-le, i .walked .within, start c .pre)))
 
 add-targets : tie.Need-add-targets Inv-loop μ-loop
-add-targets c = let g = c .before in let i = place g .loop .inv in omega (arith, sized g .few, i .targets-le, i .within, start g .pre)
+add-targets c = let g = c .before in let i = place g .loop .inv in omega (arith, sized g .few, i .targets-le, i .walked .within, start g .pre)
 
 add-length : tie.Need-add-length Inv-loop μ-loop
-add-length c = let g = c .before in let i = place g .loop .inv in omega (arith, sized g .short, i .length-le, i .within, start g .pre)
+add-length c = let g = c .before in let i = place g .loop .inv in omega (arith, sized g .short, i .length-le, i .walked .within, start g .pre)
 
 add-at : tie.Need-add-at Inv-loop μ-loop
-add-at c = let g = c .before in let i = place g .loop .inv in omega (arith, simp length-drop at (sized g .within), i .within, start g .pre)
+add-at c = let g = c .before in let i = place g .loop .inv in omega (arith, simp length-drop at (sized g .within), i .walked .within, start g .pre)
 
 loop-less : tie.Need-loop-less Inv-loop μ-loop
 loop-less c = omega (arith, sized (c .before) .header)
@@ -112,29 +108,36 @@ loop-less c = omega (arith, sized (c .before) .header)
 loop-again : tie.Need-loop-again Inv-loop μ-loop
 loop-again c =
     let g = c .before in
+    let found = g .before .before .before in
     let a = start g .args in
     let l = place g .loop in
     let i = l .inv in
     let f = sized g in
     record {
-      k = i .k - 1;
-      within = omega (arith, simp length-drop at (f .within), i .within);
-      fuel = omega (arith, f .header, i .fuel);
+      walked = walk-good (a .r) (now (a .l)) (l .at) (found .segment-at .ensures) (i .walked) (found .before .before .loop-test .taken) _ _ _ (g .before .size .given .1) (c .dwells-past .ensures);
       segments-le = omega (arith, f .header, i .segments-le);
-      dwells-le = past-among (l .segments) (l .dwells) _ _ (c .dwells-past .ensures) (i .dwells-le);
+      dwells-le = past-at-most (l .segments) (l .dwells) _ _ (c .dwells-past .ensures) (i .dwells-le);
       targets-le = omega (arith, f .header, f .few, i .targets-le);
       length-le = omega (arith, f .header, f .short, i .length-le);
-      rest =
-          from-good (a .r) (now (a .l)) _ (l .at) (tail-is (l .at) (now (a .l))) (g .before .before .before .segment-at .ensures) (i .k) (g .before .before .before .before .before .loop-test .taken) (omega (arith, i .fuel)) (l .segments) (l .dwells) (l .targets) (l .length) _ _ _ (c .dwells-past .ensures) (g .before .size .given .1)
-          ∙ i .rest;
     }
+
+-- nothing is left at the loop's end
+ended : (c : tie.After-loop Inv-loop μ-loop) → let a = c .before .before .before .args in let l = c .before .loop in
+    Ended (a .r) (now (a .l)) (l .segments) (l .dwells) (l .targets) (l .length)
+ended c =
+    let a = c .before .before .before .args in
+    let l = c .before .loop in
+    walk-end (a .r) (now (a .l)) (l .at) (l .inv .walked) (omega arith)
+
+dwell-count-requires : tie.Need-dwell-count-requires Inv-loop μ-loop
+dwell-count-requires c κs =
+    let s = c .before .before .before in
+    (record { short = s .pre; ending = ended c .ending }, ended c .dwells)
 
 returns-2 : tie.Need-returns-2 Inv-loop μ-loop
 returns-2 c =
-    let l = c .before .loop in
-    let a = c .before .before .before .args in
-    let i = l .inv in
-    sym (from-end (a .r) (i .k) (drop (l .at) (now (a .l))) (l .segments) (l .dwells) (l .targets) (l .length) (rw length-drop (omega (arith, i .within)))) ∙ i .rest
+    let l = c .before .before .loop in
+    ap (λ (d : ℕ). Accepted (l .segments) d (l .targets) (l .length)) (c .dwell-count .ensures) ∙ ended (c .before) .answer
 
 pub check-spec : {M : Type 1} → statement M
 check-spec =
@@ -158,4 +161,5 @@ check-spec =
     add-at
     loop-less
     loop-again
+    dwell-count-requires
     returns-2)

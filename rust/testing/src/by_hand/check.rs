@@ -1,4 +1,5 @@
 //! The first walk: every row of document 01, and nothing written.
+use super::dwells::Dwells;
 use super::position::Area;
 use super::spread::Places;
 use super::{bytes, mask, targets, text, Fault, Reading, HEADER};
@@ -28,10 +29,19 @@ pub fn header(packet: &[u8]) -> Result<u8, Fault> {
     Ok(header[0])
 }
 
+/// What the walk adds up.
+struct Counts {
+    segments: u32,
+    dwells: Dwells,
+    targets: u32,
+    /// The length of the sheet.
+    length: u32,
+}
+
 /// The first fault of the segments, or the counts and the length of the sheet.
 #[inline(always)]
 pub fn segments(reading: Reading, packet: &[u8]) -> Answer {
-    let mut counts = Answer { length: 33, ..Answer::default() };
+    let mut counts = Counts { segments: 0, dwells: Dwells::none(), targets: 0, length: 33 };
     let mut rest = &packet[HEADER..];
     while !rest.is_empty() {
         counts.segments += 1;
@@ -40,12 +50,12 @@ pub fn segments(reading: Reading, packet: &[u8]) -> Answer {
             Err((number, field)) => return Answer::refused(number, counts.segments, field),
         }
     }
-    counts
+    Answer::accepted(counts.segments, counts.dwells.count(packet), counts.targets, counts.length)
 }
 
 /// The size of the first segment, whose records are added to the counts, unless it has a fault.
 #[inline(always)]
-fn segment(reading: Reading, rest: &[u8], counts: &mut Answer) -> Result<usize, Fault> {
+fn segment(reading: Reading, rest: &[u8], counts: &mut Counts) -> Result<usize, Fault> {
     if rest.len() < 5 {
         return Err((6, 0));
     }
@@ -135,7 +145,7 @@ fn free_text(body: &[u8]) -> Result<u32, Fault> {
 
 /// The length of the records of a dwell whose body begins the bytes, unless one of the rows 9 and 11 to 15 applies.
 #[inline(always)]
-fn dwell(reading: Reading, from: &[u8], size: usize, counts: &mut Answer) -> Result<u32, Fault> {
+fn dwell(reading: Reading, from: &[u8], size: usize, counts: &mut Counts) -> Result<u32, Fault> {
     if size < 13 {
         return Err((9, 0));
     }
@@ -166,7 +176,7 @@ fn dwell(reading: Reading, from: &[u8], size: usize, counts: &mut Answer) -> Res
         }
         targets::check(mask, &places, &Area::of(mask, from), &from[head..size - 5])?;
     }
-    counts.dwells += 1;
+    counts.dwells.pass(from);
     counts.targets += count as u32;
     Ok(88 + (targets::RECORD * count) as u32)
 }

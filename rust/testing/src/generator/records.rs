@@ -1,5 +1,5 @@
 //! A sheet as a list of records, so that it can be changed record by record.
-use super::tables::{announced_width, RECORD_LENGTHS};
+use super::tables::{announced_width, D2_PLACE, RECORD_LENGTHS};
 use crate::independent;
 
 /// One record.
@@ -42,6 +42,11 @@ impl Record {
     /// The mask of a kind 3.
     pub fn mask(&self) -> u64 {
         self.body.iter().take(8).fold(0, |mask, byte| mask << 8 | u64::from(*byte))
+    }
+
+    /// D2 and D3 of a kind 3.
+    pub fn pair(&self) -> [u32; 2] {
+        [self.number(D2_PLACE, 2), self.number(D2_PLACE + 2, 2)]
     }
 }
 

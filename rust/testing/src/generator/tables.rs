@@ -21,6 +21,18 @@ pub const ANGLES: [u32; 3] = [28, 29, 30];
 /// D32.18, reserved in version 1.
 pub const LAST_FIELD: u32 = 49;
 
+/// The bytes of the longest packet.
+const LONGEST_PACKET: u32 = 65_536;
+
+/// Those of a packet's header.
+const HEADER: u32 = 32;
+
+/// Those of a dwell whose mask announces [`ALWAYS`] and nothing else.
+const LEAST_DWELL: u32 = 48;
+
+/// The most dwells that a packet has room for.
+pub const MOST_DWELLS: u32 = (LONGEST_PACKET - HEADER) / LEAST_DWELL;
+
 /// The groups of both versions.
 pub const GROUPS: [&[u32]; 7] = [&[12, 13, 14], &[15, 16, 17], &[18, 19, 20], &[21, 22, 23], &DELTAS, &ABSOLUTE, &[47, 48]];
 
@@ -45,6 +57,9 @@ pub const BODY_TEXT: [(u8, u32, usize, usize); 7] =
 
 /// Lengths of the bodies of records by kind; there is no kind 0.
 pub const RECORD_LENGTHS: [usize; 11] = [0, 32, 39, 87, 44, 24, 33, 5, 69, 14, 23];
+
+/// Where D2 stands in the body of a kind 3 record, with D3 behind it; so too in the body of a dwell, whose mask always announces both.
+pub const D2_PLACE: usize = 8;
 
 /// Where D5 and D27 stand in the body of a kind 3 record.
 pub const D5_PLACE: usize = 13;

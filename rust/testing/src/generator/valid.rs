@@ -1,4 +1,5 @@
 //! Packets to which no row applies in the Edition 3 reading.
+use super::pairs;
 use super::random::Random;
 use super::spelling::{Dwell, Packet, Segment, Target};
 use super::tables::{bit, is_text, mask_of, width, ABSOLUTE, ALWAYS, ANGLES, DELTAS, GROUPS, LAST_FIELD, NEW_MODES, OPAQUE_TYPES, SINGLE};
@@ -43,16 +44,27 @@ pub fn packet(random: &mut Random) -> Packet {
     packet_in(random, style, count)
 }
 
-/// A packet of this style with so many segments.
+/// A packet of this style with so many segments. Its dwells have a run of pairs of D2 and D3.
 pub fn packet_in(random: &mut Random, style: Style, count: usize) -> Packet {
-    let only = if random.chance(25) { random.pick([Some(1), Some(2), Some(5), Some(6), Some(7), Some(10), Some(13)]) } else { None };
-    let segments = (0..count)
+    // Type 2 stands five times: what a run of pairs does shows only in a packet of many dwells.
+    let only = if random.chance(40) { Some(random.pick([1, 2, 2, 2, 2, 2, 5, 6, 7, 10, 13])) } else { None };
+    let mut segments: Vec<Segment> = (0..count)
         .map(|_| match only {
             Some(segment_type) => segment_of(random, style, segment_type),
             None => segment(random, style),
         })
         .collect();
+    pairs::set(&mut segments, &pairs::run(random, count));
     Packet::new(header(random, style.version), segments)
+}
+
+/// A packet of version 3 with dwells of these pairs of D2 and D3, without targets and alike in all else. More of them than
+/// [`MOST_DWELLS`](super::tables::MOST_DWELLS) make it too long.
+pub fn packet_by_pairs(random: &mut Random, pairs: &[u32]) -> Packet {
+    let dwell = dwell_with(random, mask_of(&ALWAYS), 0).segment();
+    let mut segments = vec![dwell; pairs.len()];
+    pairs::set(&mut segments, pairs);
+    Packet::new(header(random, 3), segments)
 }
 
 /// A header of this version with any digit; P2 is left for later.

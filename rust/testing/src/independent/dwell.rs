@@ -183,6 +183,12 @@ impl<'a> Dwell<'a> {
         self.targets.chunks_exact(self.target_layout.length.max(1))
     }
 
+    /// D2 and D3. Segments with the same two are parts of one dwell (request A1).
+    /// By row 11 both are announced.
+    pub fn pair(&self) -> (u32, u32) {
+        (self.own(2), self.own(3))
+    }
+
     /// The value of a field of the dwell itself, 0 where it is absent.
     fn own(&self, field: u32) -> u32 {
         self.layout.value(field, self.fields).unwrap_or(0)

@@ -4,10 +4,11 @@
 //! packet before the first byte of the sheet is filled.
 
 use super::dwell::{d32, mask_at_fault, mask_of, new_in_mask, Dwell};
-use super::packet::{fault, split_segment, Fault, Reading, Segment};
+use super::packet::{fault, segments, split_segment, Fault, Reading, Segment};
 use super::sheet::{fill, piece_count};
 use super::tables::*;
 use gmti::Answer;
+use std::collections::BTreeSet;
 
 /// Reads `packet` as Edition `edition` into `sheet`.
 ///
@@ -37,7 +38,23 @@ fn check(edition: u32, packet: &[u8]) -> Result<(Reading, Answer), Answer> {
         check_segment(reading, &segment, &mut answer).map_err(|fault| fault.in_segment(number))?;
         rest = after;
     }
+    answer.dwells = dwell_count(packet);
     Ok((reading, answer))
+}
+
+/// "The number of different pairs of D2 and D3 in the packet" (request A1), for
+/// a packet that has passed rows 1 to 15.
+///
+/// Not the number of dwell segments: "Targets detected within a dwell may be
+/// split among multiple Dwell Segments" (document 003, 2.4.32).
+fn dwell_count(packet: &[u8]) -> u32 {
+    let mut pairs = BTreeSet::new();
+    for segment in segments(packet) {
+        if segment.segment_type == segment_type::DWELL {
+            pairs.extend(Dwell::new(segment.body).map(|dwell| dwell.pair()));
+        }
+    }
+    pairs.len() as u32
 }
 
 /// Rows 1 to 5: the call and the header.
@@ -75,8 +92,9 @@ fn text_at_fault(fields: &[Field], bytes: &[u8]) -> Option<u32> {
     None
 }
 
-/// The rows of one segment from the first row 15 on; adds its counts and the
-/// length of its records to `answer`.
+/// The rows of one segment from the first row 15 on; adds its targets and the
+/// length of its records to `answer`. Whether it adds a dwell is not told by one
+/// segment alone.
 fn check_segment(reading: Reading, segment: &Segment, answer: &mut Answer) -> Result<(), Fault> {
     let body = segment.body;
     if reading.is_older && segment.segment_type == segment_type::HRR {
@@ -92,7 +110,6 @@ fn check_segment(reading: Reading, segment: &Segment, answer: &mut Answer) -> Re
         }
         segment_type::DWELL => {
             let dwell = check_dwell(reading, body)?;
-            answer.dwells += 1;
             answer.targets += dwell.target_count;
             length += 1 + DWELL_RECORD + dwell.target_count as usize * (1 + TARGET_RECORD);
         }

@@ -1,5 +1,6 @@
-//! The document's trials, one packet or sheet for each row, round trips, and
-//! the agreement of the two readings of version 3 packets.
+//! The document's trials, one packet or sheet for each row, round trips, the
+//! dwell counts of request A1, and the agreement of the two readings of version
+//! 3 packets.
 
 use super::positions::{LatitudeSteps, LongitudeSteps};
 use super::tables::{is_new_radar_mode, DWELL_FIELDS, TARGET_FIELDS};
@@ -445,6 +446,109 @@ fn round_trips() {
     assert_round_trip(&largest);
     let many = packet("30", &[dwell(RELATIVE, &[], &vec![&[][..]; 16_000])]);
     assert_eq!(assert_round_trip(&many).0.length, 33 + 88 + 45 * 16_000);
+}
+
+/// The smallest dwell segment, with this D2 and D3 and no targets.
+fn least_dwell(d2: u32, d3: u32) -> Vec<u8> {
+    dwell(LEAST, &[(2, d2), (3, d3)], &[])
+}
+
+/// Both readings, of either version, and the writer count `dwells` dwells in a
+/// packet of these segments. Segments, targets and the sheet do not go by them.
+fn assert_dwells(segments: &[Vec<u8>], dwells: u32) {
+    for version in ["10", "30"] {
+        let bytes = packet(version, segments);
+        let (newer, sheet) = assert_round_trip(&bytes);
+        let (older, _) = sheet_of(1, &bytes);
+        let written = write(&sheet, &mut vec![0; bytes.len()]);
+        let of_kind = |kind| super::sheet::records(&sheet).filter(|record| record.kind == kind).count();
+        for answer in [newer, older, written] {
+            assert!(answer.is_accepted(), "{answer}");
+            assert_eq!(answer.dwells, dwells);
+            assert_eq!(answer.segments as usize, segments.len());
+            assert_eq!(answer.targets as usize, of_kind(4));
+        }
+        let dwell_segments = segments.iter().filter(|segment| segment[0] == 2).count();
+        assert_eq!(of_kind(3), dwell_segments);
+    }
+}
+
+/// Request A1: "the number of different pairs of D2 and D3 in the packet".
+#[test]
+fn split_dwells_are_one_dwell() {
+    let of_pairs = |pairs: &[(u32, u32)]| pairs.iter().map(|(d2, d3)| least_dwell(*d2, *d3)).collect::<Vec<_>>();
+    let cases: [(&[(u32, u32)], u32); 12] = [
+        (&[], 0),
+        (&[(0, 0)], 1),
+        (&[(5, 6)], 1),
+        (&[(5, 6), (5, 6)], 1),
+        (&[(5, 6), (5, 7)], 2),
+        (&[(5, 6), (4, 6)], 2),
+        // Neither the order of the two, nor their bytes or their sum, may be mixed up.
+        (&[(1, 2), (2, 1)], 2),
+        (&[(0, 258), (1, 2)], 2),
+        (&[(0, 256), (1, 0), (256, 0), (0, 1)], 4),
+        (&[(0, 0), (0, 65_535), (65_535, 0), (65_535, 65_535)], 4),
+        // Parts of one dwell need not stand together.
+        (&[(1, 2), (3, 4), (1, 2)], 2),
+        (&[(1, 2), (3, 4), (1, 2), (3, 4), (5, 6), (3, 4)], 3),
+    ];
+    for (pairs, dwells) in cases {
+        assert_dwells(&of_pairs(pairs), dwells);
+    }
+}
+
+#[test]
+fn dwells_of_the_fullest_packet() {
+    // The most dwell segments that 65,536 bytes hold.
+    const MOST: u32 = 1_364;
+    assert_eq!((65_536 - 32) / 48, MOST);
+    let each = |pair: fn(u32) -> (u32, u32)| (0..MOST).map(|n| least_dwell(pair(n).0, pair(n).1)).collect::<Vec<_>>();
+    assert_dwells(&each(|n| (0, n)), MOST);
+    assert_dwells(&each(|n| (n, 0)), MOST);
+    assert_dwells(&each(|n| (9, MOST - n)), MOST);
+    assert_dwells(&each(|n| (n / 100, n % 100)), MOST);
+    assert_dwells(&each(|_| (7, 8)), 1);
+    // Each dwell in two parts, side by side or half a packet apart.
+    assert_dwells(&each(|n| (0, n / 2)), MOST / 2);
+    assert_dwells(&each(|n| (0, n % (MOST / 2))), MOST / 2);
+    let one_more = packet("30", &vec![least_dwell(7, 8); MOST as usize + 1]);
+    assert_read(3, &one_more, (2, 0, 0));
+}
+
+#[test]
+fn dwells_among_other_segments() {
+    // Only the pair tells: not the mask, another field, or the targets.
+    let pair = [(2, 7), (3, 9)];
+    let target: Values = &[(33, 1), (34, 2)];
+    let other_fields = dwell(LEAST, &[(2, 7), (3, 9), (4, 1), (6, 100), (24, 5), (27, 3)], &[]);
+    let parts = [
+        dwell(ABSOLUTE, &pair, &[target, target]),
+        dwell(RELATIVE, &pair, &[&[]]),
+        dwell(ABSOLUTE | bit(31), &pair, &[target]),
+        other_fields,
+        least_dwell(7, 9),
+    ];
+    assert_dwells(&parts, 1);
+    for part in &parts {
+        assert_dwells(&[part.clone()], 1);
+        assert_dwells(&[part.clone(), least_dwell(7, 10)], 2);
+        assert_dwells(&[least_dwell(8, 9), part.clone()], 2);
+    }
+    // Other segments have no D2 and D3, though their bytes be those of a dwell.
+    assert_dwells(&[mission(1, 1), job(1), segment(4, &least_dwell(1, 1)[5..])], 0);
+    assert_dwells(&[least_dwell(7, 9), segment(4, &least_dwell(1, 1)[5..]), mission(1, 1), least_dwell(7, 9)], 1);
+    assert_dwells(&[all_types(false), all_types(false)].concat(), 1);
+    assert_dwells(&[all_types(false), parts.to_vec(), all_types(false)].concat(), 2);
+    // Nor has an HRR segment: its revisit and dwell index are H2 and H3 (document
+    // 003, 2.5), and it is opaque.
+    let hrr = packet("30", &[least_dwell(7, 9), segment(3, &least_dwell(1, 1)[5..])]);
+    assert_eq!(assert_round_trip(&hrr).0.dwells, 1);
+    // The program prints a split dwell as one, with both its segments and targets.
+    let split = dwell(ABSOLUTE, &pair, &[&[]]);
+    assert_eq!(printed(&packet("30", &[split.clone(), split.clone()])), "ok 2 1 2 299\n0 0\n0 0");
+    // A refusal goes on naming the segment, not the dwell.
+    assert_read(3, &packet("30", &[split.clone(), split, mission(0, 1)]), (13, 3, 6));
 }
 
 /// Demand 3: the Edition 1 reading of a version 3 packet that the Edition 3

@@ -29,6 +29,7 @@ pub fn write(sheet: &[u8], packet: &mut [u8]) -> Answer {
         return Answer::refused(20, 0, 0);
     };
     place.copy_from_slice(&spelt);
+    // The counts are the packet's, so they are those of its reading.
     Answer { length: spelt.len() as u32, ..reading }
 }
 

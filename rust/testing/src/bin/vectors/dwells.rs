@@ -1,5 +1,5 @@
-//! Rows 11 to 14: masks, sizes and values of dwells.
-use crate::parts::{dwell, mask, masked, packet, segment, Part, ABSOLUTE, DELTAS, LEAST};
+//! Rows 11 to 14: masks, sizes and values of dwells. Then how many dwells there are.
+use crate::parts::{dwell, dwell_of, mask, masked, mission, packet, segment, text, Part, ABSOLUTE, ALL_DELTAS, DELTAS, LEAST};
 use crate::trials::{Lend, Trials};
 use std::slice::from_ref;
 use testing::generator::tables::bit;
@@ -85,7 +85,7 @@ pub fn angles(t: &mut Trials) {
     }
     let mut parts: Vec<Part> = some.iter().map(|(words, _)| dwell(words)).collect();
     parts.push(dwell("D29").with(29, 0));
-    t.read("angles version 3", 3, packet(3, &parts), "ok 6 6 0 561");
+    t.read("angles version 3", 3, packet(3, &parts), "ok 6 1 0 561");
     t.read("angles with D32.18 whole old", 1, packet(3, &[dwell("D28-D30 D32.18")]), "no 15 1 49");
     t.read("angles with D32.18 part old", 1, packet(3, &[dwell("D29 D30 D32.18")]), "no 15 1 28");
     let alone = dwell(&format!("{ABSOLUTE} D32.7 D32.12")).usual_targets(1);
@@ -138,7 +138,7 @@ fn some(targets: &[&[(usize, i64)]]) -> Part {
 }
 
 pub fn values(t: &mut Trials) {
-    t.read("D4 0 and 1", 3, packet(3, &[dwell("").with(4, 0), dwell("").with(4, 1)]), "ok 2 2 0 209");
+    t.read("D4 0 and 1", 3, packet(3, &[dwell("").with(4, 0), dwell("").with(4, 1)]), "ok 2 1 0 209");
     t.read("D4 2", 3, packet(3, &[dwell("").with(4, 2)]), "no 13 1 4");
     t.read("D4 255", 1, packet(1, &[dwell("").with(4, 255)]), "no 13 1 4");
     t.read("D4 before D5", 3, packet(3, &[dwell("").with(4, 2).with(5, 7)]), "no 13 1 4");
@@ -180,4 +180,96 @@ pub fn latitudes_out(t: &mut Trials) {
     let longer = dwell(DELTAS).with(10, 1).with(24, 0x7FFF_FFFF).target(&[(4, 2)]).sized(61);
     t.read("size before 14", 3, packet(3, &[longer]), "no 12 1 0");
     t.read_to("14 with nothing lent", 3, packet(3, &[out(&[&[(4, 2)]])]), "no 14 1 35", Lend::Bytes(0));
+}
+
+/// Segments of a packet, and what is answered by the writer and by every reading that accepts it.
+pub struct Counted {
+    pub name: &'static str,
+    pub parts: Vec<Part>,
+    /// The numbers of segments, dwells and targets.
+    pub counts: &'static str,
+    /// The length of the sheet.
+    length: usize,
+}
+
+impl Counted {
+    fn new(name: &'static str, parts: Vec<Part>, counts: &'static str, length: usize) -> Counted {
+        Counted { name, parts, counts, length }
+    }
+
+    /// Dwells without targets that have these pairs of D2 and D3.
+    fn dwells(name: &'static str, pairs: &[(i64, i64)], counts: &'static str, length: usize) -> Counted {
+        Counted::new(name, pairs.iter().copied().map(dwell_of).collect(), counts, length)
+    }
+
+    /// The answer of a reading that accepts the packet.
+    fn read(&self) -> String {
+        format!("ok {} {}", self.counts, self.length)
+    }
+}
+
+/// There are as many dwells as different pairs of D2 and D3: a station may split a long dwell over several segments.
+pub fn by_pairs() -> Vec<Counted> {
+    vec![
+        Counted::dwells("one dwell", &[(7, 9)], "1 1 0", 121),
+        Counted::dwells("one dwell in two segments", &[(7, 9), (7, 9)], "2 1 0", 209),
+        Counted::dwells("another D2 alone", &[(7, 9), (6, 9)], "2 2 0", 209),
+        Counted::dwells("another D3 alone", &[(7, 9), (7, 10)], "2 2 0", 209),
+        Counted::dwells("pairs 1 2 and 2 1", &[(1, 2), (2, 1)], "2 2 0", 209),
+        Counted::dwells("pairs 0 258 and 1 2", &[(0, 258), (1, 2)], "2 2 0", 209),
+        Counted::dwells("first pair again behind another", &[(7, 9), (8, 0), (7, 9)], "3 2 0", 297),
+        Counted::dwells("two pairs by turns", &[(8, 0), (7, 9), (8, 0), (7, 9), (8, 0)], "5 2 0", 473),
+        Counted::dwells("pairs rise and repeat", &[(0, 0), (0, 0), (0, 1), (0, 1), (1, 0)], "5 3 0", 473),
+        Counted::dwells("pairs fall", &[(3, 0), (2, 9), (2, 8), (0, 1)], "4 4 0", 385),
+        Counted::dwells("pairs fall and repeat", &[(3, 0), (3, 0), (2, 9), (0, 1), (0, 1)], "5 3 0", 473),
+        Counted::dwells("lowest and highest pair", &[(0, 0), (0, 0xFFFF), (0xFFFF, 0), (0xFFFF, 0xFFFF), (0, 0)], "5 4 0", 473),
+        Counted::new("one pair under four masks", one_pair(), "4 1 3", 520),
+        Counted::new("two pairs among other segments", among_others(), "6 2 0", 470),
+    ]
+}
+
+/// Parts of one dwell that differ in all but D2 and D3: in their masks, in other fields, and in whether they have targets.
+fn one_pair() -> Vec<Part> {
+    let parts = [dwell(ABSOLUTE).usual_targets(2), dwell(DELTAS), dwell(ALL_DELTAS).usual_targets(1), dwell("").with(4, 0).with(6, 1)];
+    parts.map(|part| part.with(2, 7).with(3, 9)).to_vec()
+}
+
+/// Two dwells, one of them in two parts, with other segments between; one of these has the bytes of a third dwell.
+fn among_others() -> Vec<Part> {
+    let [first, second, third] = [(7, 9), (7, 8), (1, 1)].map(dwell_of);
+    let opaque = segment(4, &third.body());
+    vec![first.clone(), mission(), second, opaque, text(b"abc"), first]
+}
+
+/// Dwells are counted by their pairs; the segment that a refusal names is counted by segments.
+pub fn pairs(t: &mut Trials) {
+    for counted in by_pairs() {
+        t.both(counted.name, &packet(3, &counted.parts), &counted.read());
+    }
+    let twice = [(7, 9), (7, 9)].map(dwell_of);
+    t.read("one dwell in two segments version 1", 3, packet(1, &twice), "ok 2 1 0 209");
+    t.read("refusal behind a dwell in two segments", 3, packet(3, &[&twice[..], &[mission().with(6, 0)]].concat()), "no 13 3 6");
+}
+
+/// One dwell, and a segment of another type whose bytes would read as a dwell with another pair. That of type 10 has room for the first
+/// 14 of them: T2 and T3, its own revisit and dwell, are then zero.
+pub fn beside_others() -> Vec<Counted> {
+    let [one, other] = [(7, 9), (1, 1)].map(dwell_of);
+    let beside = |part: Part| vec![one.clone(), part];
+    vec![
+        Counted::new("dwell beside type 3", beside(segment(3, &other.body())), "2 1 0", 195),
+        Counted::new("dwell beside type 4", beside(segment(4, &other.body())), "2 1 0", 195),
+        Counted::new("dwell beside type 10", beside(segment(10, &other.body()[..14])), "2 1 0", 136),
+    ]
+}
+
+/// Only segments of type 2 are dwells. Type 3 is new in Edition 3.
+pub fn other_types(t: &mut Trials) {
+    for counted in beside_others() {
+        let (name, want) = (counted.name, counted.read());
+        let is_new = counted.parts[1].segment_type == 3;
+        t.read(&format!("{name} reading 1"), 1, packet(3, &counted.parts), if is_new { "no 15 2 0" } else { &want });
+        t.read(&format!("{name} reading 3"), 3, packet(3, &counted.parts), &want);
+        t.both(&format!("{name} version 1"), &packet(1, &counted.parts), &want);
+    }
 }

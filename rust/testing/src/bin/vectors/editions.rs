@@ -1,10 +1,11 @@
 //! Packets on which demand 3 is run.
 use crate::newer::NEW;
-use crate::parts::{by_deltas, dwell, every_kind, header, job, location, mission, packet, raw, segment, test, text, trial, trial_dwell};
-use crate::parts::{Part, ABSOLUTE, ALL_DELTAS};
+use crate::parts::{by_deltas, dwell, dwell_of, every_kind, header, job, location, mission, packet, raw, segment, test, text};
+use crate::parts::{trial, trial_dwell, Part, ABSOLUTE, ALL_DELTAS};
 use crate::trials::is_name;
 use crate::verdict::{verdict, INDEPENDENT};
 use std::collections::BTreeSet;
+use testing::generator::tables::MOST_DWELLS;
 
 /// The list, and what is wrong with it.
 #[derive(Default)]
@@ -39,6 +40,7 @@ pub fn list() -> Editions {
     several(&mut e);
     version_1(&mut e);
     refused(&mut e);
+    pairs(&mut e);
     e
 }
 
@@ -119,9 +121,9 @@ fn several(e: &mut Editions) {
         job().with(26, 2),
     ];
     let length = 33 + 3 * 88 + 45 + 3 * 70;
-    e.add("dwells and jobs", packet(3, &parts), &format!("alike ok 6 3 1 {length}"));
+    e.add("dwells and jobs", packet(3, &parts), &format!("alike ok 6 1 1 {length}"));
     for version in [1, 3] {
-        e.add(&format!("mixture version {version}"), packet(version, &every_kind()), "alike ok 10 3 3 686");
+        e.add(&format!("mixture version {version}"), packet(version, &every_kind()), "alike ok 10 1 3 686");
         let all = dwell(ALL_DELTAS).usual_targets(2);
         e.add(&format!("all fields version {version}"), packet(version, &[all]), "alike ok 1 1 2 211");
     }
@@ -166,4 +168,18 @@ fn refused(e: &mut Editions) {
     ] {
         e.add(&format!("refused {name}"), packet(3, &parts), want);
     }
+}
+
+/// Both readings and the writer count the same dwells: as many as there are different pairs of D2 and D3.
+fn pairs(e: &mut Editions) {
+    let split = [dwell_of((7, 9)), job(), dwell_of((7, 9))];
+    e.add("one dwell in two segments", packet(3, &split), "alike ok 3 1 0 279");
+    e.add("version 1 one dwell in two segments", packet(1, &split), "alike ok 3 1 0 279");
+    e.add("three dwells in falling order", packet(3, &[(8, 0), (7, 9), (7, 8)].map(dwell_of)), "alike ok 3 3 0 297");
+    e.add("first dwell again behind another", packet(3, &[(7, 9), (8, 0), (7, 9)].map(dwell_of)), "alike ok 3 2 0 297");
+    e.add("new behind a dwell in two segments", packet(3, &[&split[..], &[dwell("D32.18")]].concat()), "new no 15 4 49");
+    let mut full: Vec<Part> = (0..i64::from(MOST_DWELLS)).map(|n| dwell_of((n / 100, n % 100))).collect();
+    e.add("full packet of dwells in rising order", packet(3, &full), "alike ok 1364 1364 0 120065");
+    full.reverse();
+    e.add("full packet of dwells in falling order", packet(3, &full), "alike ok 1364 1364 0 120065");
 }

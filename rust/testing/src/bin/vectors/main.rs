@@ -23,12 +23,12 @@ use std::fs;
 use std::path::Path;
 use std::process::ExitCode;
 use testing::generator::faults::Fault;
-use testing::tally::Tally;
+use testing::tally::{Tally, LIKENESSES};
 use trials::Trials;
 use verdict::{Implementation, INDEPENDENT, VERIFIED};
 
-/// The readings, then the writings.
-const LISTS: [fn(&mut Trials); 54] = [
+/// The readings, then the writings. Lists that came later stand behind these: how much is lent to a refusal goes by its place.
+const LISTS: [fn(&mut Trials); 58] = [
     heads::call,
     heads::versions,
     heads::packet_sizes,
@@ -83,6 +83,10 @@ const LISTS: [fn(&mut Trials); 54] = [
     unwritten::row_19_masks,
     unwritten::order_of_17,
     unwritten::order_of_18_and_19,
+    dwells::pairs,
+    written::pairs,
+    dwells::other_types,
+    written::other_types,
 ];
 
 fn main() -> ExitCode {
@@ -126,7 +130,7 @@ fn write(root: &Path) -> Vec<String> {
     faults
 }
 
-/// What the vectors leave untried of the rows, the fields that they name, and the kinds of record.
+/// What the vectors leave untried of the rows, the fields that they name, the kinds of record, and pairs of D2 and D3.
 fn untried(trials: &Trials) -> Vec<String> {
     let mut tally = Tally::default();
     for trial in &trials.trials {
@@ -151,6 +155,8 @@ fn untried(trials: &Trials) -> Vec<String> {
     };
     untried.extend((0..=20).filter(|row| !is_tried(row)).map(|row| format!("row {row} is not tried")));
     untried.extend((1..=10).filter(|kind| tally.records[*kind] == 0).map(|kind| format!("kind {kind} is not tried")));
+    let pairs = LIKENESSES.iter().zip(tally.pairs).filter(|(_, count)| *count == 0);
+    untried.extend(pairs.map(|((name, _), _)| format!("a pair of D2 and D3 that is {name} is not tried")));
     untried
 }
 

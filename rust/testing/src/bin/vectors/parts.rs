@@ -269,6 +269,11 @@ pub fn dwell(more: &str) -> Part {
     masked(mask(LEAST) | mask(more))
 }
 
+/// A dwell without targets that has this pair of D2 and D3.
+pub fn dwell_of((d2, d3): (i64, i64)) -> Part {
+    dwell("").with(2, d2).with(3, d3)
+}
+
 /// A dwell of this mask without targets.
 pub fn masked(mask: u64) -> Part {
     let mut values = [0; 32];

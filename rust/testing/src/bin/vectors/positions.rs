@@ -86,7 +86,7 @@ pub fn latitude_sums(t: &mut Trials) {
     ];
     let parts = sums.map(|(d10, d24, d32_4, _)| by_deltas(d10, d24, d32_4));
     let at = sums.map(|(.., micro)| (micro, 0));
-    t.read_at("sums of latitude", 3, packet(3, &parts), "ok 15 15 15 2028", &at);
+    t.read_at("sums of latitude", 3, packet(3, &parts), "ok 15 1 15 2028", &at);
     for (name, d10, d24, d32_4) in [
         ("below lowest", 1, big, -1),
         ("below lowest by much", 0x7FFF_FFFF, 0, -32_768),
@@ -121,7 +121,7 @@ pub fn longitude_sums(t: &mut Trials) {
     ];
     let parts = sums.map(|(d11, d25, d32_5, _)| by_longitude_deltas(d11, d25, d32_5));
     let at = sums.map(|(.., micro)| (0, micro));
-    t.read_at("sums of longitude", 1, packet(3, &parts), "ok 15 15 15 2028", &at);
+    t.read_at("sums of longitude", 1, packet(3, &parts), "ok 15 1 15 2028", &at);
 }
 
 pub fn printed(t: &mut Trials) {
@@ -196,7 +196,7 @@ pub fn shapes(t: &mut Trials) {
     let mut parts: Vec<Part> = some.into_iter().map(dwell).collect();
     parts.extend([dwell(&format!("{DELTAS} D32.1")), dwell("D32.6 D32.8 D32.10")]);
     for edition in [1, 3] {
-        t.read(&format!("shapes without targets reading {edition}"), edition, packet(3, &parts), "ok 9 9 0 825");
+        t.read(&format!("shapes without targets reading {edition}"), edition, packet(3, &parts), "ok 9 1 0 825");
     }
     let seven = dwell(&format!("{DELTAS} D32.1 D32.9")).usual_targets(7);
     t.read("seven targets", 3, packet(3, &[seven]), "ok 1 1 7 436");

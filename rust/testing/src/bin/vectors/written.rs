@@ -1,5 +1,6 @@
 //! Sheets that are written back, and row 20.
 use crate::bodies::{octets, words, OPAQUE};
+use crate::dwells::{beside_others, by_pairs, Counted};
 use crate::parts::{absolute, dwell, every_kind, job, location, mission, packet, segment, test, text, trial, trial_dwell};
 use crate::parts::{ABSOLUTE, ALL_ABSOLUTE, ALL_DELTAS};
 use crate::records::{opaque_record, piece, pieces, record, sheet, target, text_record, trial_target};
@@ -99,15 +100,15 @@ pub fn both_readings(t: &mut Trials) {
     let made = packet(3, &[trial_dwell(), job(), dwell("D28-D30")]);
     let mut filled = read(1, &made);
     independent::fill_in(&mut filled, &read(3, &made));
-    t.gives("sheet filled in", filled, "ok 3 2 1 219", &made);
+    t.gives("sheet filled in", filled, "ok 3 1 1 219", &made);
     for version in [1, 3] {
         let made = packet(version, &every_kind());
-        t.gives(&format!("mixture version {version}"), read(3, &made), "ok 10 3 3 500", &made);
+        t.gives(&format!("mixture version {version}"), read(3, &made), "ok 10 1 3 500", &made);
     }
     let mut parts = every_kind();
     parts.reverse();
     let made = packet(3, &parts);
-    t.gives_to("mixture backwards", read(3, &made), "ok 10 3 3 500", &made, Lend::Exact);
+    t.gives_to("mixture backwards", read(3, &made), "ok 10 1 3 500", &made, Lend::Exact);
 }
 
 pub fn row_20(t: &mut Trials) {
@@ -138,5 +139,28 @@ pub fn row_20(t: &mut Trials) {
     let many = packet(1, &vec![test(); 9]);
     for (name, lent, want) in [("203", 203, "ok 9 0 0 203"), ("202", 202, short), ("the sheet", 168, short)] {
         t.gives_to(&format!("nine tests to {name}"), read(3, &many), want, &many, Lend::Bytes(lent));
+    }
+}
+
+/// The writer's counts are those of the packet that it gives back.
+fn gives_back(t: &mut Trials, name: &str, version: u8, counted: &Counted) {
+    let made = packet(version, &counted.parts);
+    t.gives(name, read(3, &made), &format!("ok {} {}", counted.counts, made.len()), &made);
+}
+
+pub fn pairs(t: &mut Trials) {
+    for counted in by_pairs() {
+        gives_back(t, counted.name, 3, &counted);
+    }
+    let part = dwell("");
+    let made = sheet(3, 32 + 3 * 48, &[record(&part), record(&part.clone().with(3, 0)), record(&part)]);
+    let parts = [part.clone(), part.clone().with(3, 0), part];
+    t.gives("two pairs in three records", made, "ok 3 2 0 176", &packet(3, &parts));
+}
+
+pub fn other_types(t: &mut Trials) {
+    for counted in beside_others() {
+        gives_back(t, counted.name, 3, &counted);
+        gives_back(t, &format!("{} version 1", counted.name), 1, &counted);
     }
 }

@@ -1,0 +1,179 @@
+-- The pairs of D2 and D3 on the records of a packet are those of its segments: a dwell's record has them as its segment has, since what is
+-- withheld, D27, stands behind them, and no other record has any. And those that are counted are each pair once.
+-- Assumes nothing.
+use Prim.Native.Nat.{ℕ, zero, suc, _+_, _≤_}
+use native.Mathlib.Omega.{arith}
+use mathlib.Core.Path.{_≡_, refl, sym, ap, ap₂, _∙_}
+use mathlib.Core.Bool.{Bool, true, false, _&&_, cond}
+use mathlib.Core.List.{List, [], _∷_, _++_, append-assoc}
+use borrow.Author.Tests.{eqb-true, eq-eqb}
+use lib.Dec.{eqb, lit≤}
+use lib.ListN.{length, take, drop, length-append, length-drop, take-append-drop}
+use lib.Seq.{length-take-le, drop-append-le, drop-at}
+use Rattle.octets.specs.Layout.{value, width, offset, total, replaced}
+use Rattle.octets.proofs.Laws.{be-front}
+use Rattle.octets.proofs.Layouts.{length-zeroed}
+use Rattle.distinct.proofs.Laws.{same-members, none-twice}
+use Rattle.mask.specs.Fields.{dwellWidths}
+use Rattle.format.specs.declared.Reading.{Reading}
+use Rattle.format.specs.declared.Area.{Area}
+use Rattle.format.specs.declared.Check.the-variants.{Passed}
+use Rattle.format.specs.Packet.{Segment}
+use Rattle.format.specs.Dwell.{dwellFields, D, Pair, pairOf, isSamePair}
+use Rattle.format.specs.Edition.{isOlder, shown, mark}
+use Rattle.format.specs.Sheet.{Record, bodyLength, recordOf, dwellRecord, targetRecord, targetRecords, pieceRecord, pieceRecords, dwellRecords, textRecords, opaqueRecords, jobRecords, segmentRecords, packetRecords}
+use Rattle.format.specs.Rows.{firstRow, dwellRows, bodyRows}
+use Rattle.format.specs.Reader.{pairsIn}
+use Rattle.format.proofs.Rows.{either, both}
+use Rattle.format.proofs.Types.{by-number}
+use Rattle.format.proofs.Bodies.{record-exact, length-dwell}
+use Rattle.format.proofs.Dwells.{is-dwell}
+use Rattle.format.proofs.Segments.{AllSound}
+use Rattle.demands.specs.Counts.{pairsOn}
+use Rattle.demands.specs.Demands.{DifferentPairs}
+
+-- ---- numbers in fields
+
+module _ (first : ℕ) (ws : List ℕ) (n : ℕ) where
+  -- a number that lies within b goes by nothing that follows b
+  value-front : (b c : List ℕ) → offset first ws n + width first ws n ≤ length b → value first ws n (b ++ c) ≡ value first ws n b
+  unfolding value
+  value-front b c h =
+      let at : offset first ws n ≤ length b = omega arith in
+      let here : width first ws n ≤ length (drop (offset first ws n) b) = rw length-drop (omega arith) in
+      rw (drop-append-le (offset first ws n) b c at) (be-front (width first ws n) (drop (offset first ws n) b) c here)
+
+  -- one that stands before a field stays where that field is replaced
+  value-kept : (m : ℕ) (v b : List ℕ) → offset first ws n + width first ws n ≤ offset first ws m → offset first ws m ≤ length b
+      → value first ws n (replaced first ws m v b) ≡ value first ws n b
+  unfolding replaced
+  value-kept m v b h k =
+      let front = take (offset first ws m) b in
+      let within : offset first ws n + width first ws n ≤ length front = rw (length-take-le (offset first ws m) b k) h in
+      ap (value first ws n) (append-assoc front v _)
+      ∙ value-front front _ within
+      ∙ sym (value-front front (drop (offset first ws m) b) within)
+      ∙ ap (value first ws n) (take-append-drop (offset first ws m) b)
+
+-- ---- a dwell's record
+
+module _ (r : Reading) (b : List ℕ) where
+  -- D2 to D31 as they are shown
+  abbrev shownFields : List ℕ
+  shownFields = shown r 2 dwellWidths 27 (dwellFields b)
+
+  -- they are as long
+  length-shown : length shownFields ≡ 78
+  unfolding shown total
+  length-shown =
+      let n = length-dwell b in
+      either (λ (f : List ℕ). length f ≡ 78) (isOlder r) (length-zeroed 2 dwellWidths 27 (dwellFields b) (omega arith) ∙ n) n
+
+  -- and a number before D27 is as it was
+  shown-kept : (n : ℕ) → offset 2 dwellWidths n + width 2 dwellWidths n ≤ offset 2 dwellWidths 27 → D n shownFields ≡ D n (dwellFields b)
+  unfolding shown total
+  shown-kept n h =
+      let long : 69 ≤ length (dwellFields b) = omega (arith, length-dwell b) in
+      either (λ (f : List ℕ). D n f ≡ D n (dwellFields b)) (isOlder r) (value-kept 2 dwellWidths n 27 _ (dwellFields b) h long) refl
+
+  module _ (long : 8 ≤ length b) where
+    -- behind the mask the record has what is shown, and the mark
+    shown-behind-mask : drop 8 (dwellRecord r b .body) ≡ shownFields ++ mark r ∷ []
+    unfolding dwellRecord bodyLength
+    shown-behind-mask =
+        let a : length (take 8 b) ≡ 8 = length-take-le 8 b long in
+        let n : length (take 8 b ++ shownFields ++ mark r ∷ []) ≡ bodyLength 3 = simp (length-append, a, length-shown) in
+        ap (λ (q : Record). drop 8 (q .body)) (record-exact 3 _ n)
+        ∙ ap (drop 8) (append-assoc (take 8 b) shownFields (mark r ∷ []))
+        ∙ drop-at (take 8 b) (shownFields ++ mark r ∷ []) 8 a
+
+    -- so a number before D27 is that of the segment
+    record-kept : (n : ℕ) → offset 2 dwellWidths n + width 2 dwellWidths n ≤ offset 2 dwellWidths 27 → D n (drop 8 (dwellRecord r b .body)) ≡ D n (dwellFields b)
+    unfolding total
+    record-kept n h =
+        let within : offset 2 dwellWidths n + width 2 dwellWidths n ≤ length shownFields = omega (arith, length-shown) in
+        ap (D n) shown-behind-mask ∙ value-front 2 dwellWidths n shownFields (mark r ∷ []) within ∙ shown-kept n h
+
+    -- above all D2 and D3
+    record-pair : pairOf (drop 8 (dwellRecord r b .body)) ≡ pairOf (dwellFields b)
+    unfolding total
+    record-pair = ap₂ (λ (d2 d3 : ℕ). record { d2 = d2; d3 = d3 }) (record-kept 2 (lit≤ tt)) (record-kept 3 (lit≤ tt))
+
+-- ---- the records of a packet
+
+-- the pairs of records after others
+pairs-append : (rs qs : List Record) → pairsOn (rs ++ qs) ≡ pairsOn rs ++ pairsOn qs
+unfolding pairsOn
+pairs-append [] qs = refl
+pairs-append (q ∷ rs) qs = go (eqb (q .kind) 3) (pairs-append rs qs)
+  where
+    go : (t : Bool) → pairsOn (rs ++ qs) ≡ pairsOn rs ++ pairsOn qs
+        → cond t (pairOf (drop 8 (q .body)) ∷ pairsOn (rs ++ qs)) (pairsOn (rs ++ qs)) ≡ cond t (pairOf (drop 8 (q .body)) ∷ pairsOn rs) (pairsOn rs) ++ pairsOn qs
+    go true e = ap (λ (ps : List Pair). pairOf (drop 8 (q .body)) ∷ ps) e
+    go false e = e
+
+-- targets have none
+targets-without : (mask : ℕ) (area : Area) (n : ℕ) (t : List ℕ) → pairsOn (targetRecords mask area n t) ≡ []
+unfolding pairsOn targetRecords targetRecord recordOf
+targets-without mask area zero t = refl
+targets-without mask area (suc n) t = targets-without mask area n _
+
+-- nor have pieces
+pieces-without : (n : ℕ) (b : List ℕ) → pairsOn (pieceRecords n b) ≡ []
+unfolding pairsOn pieceRecords pieceRecord recordOf
+pieces-without zero b = refl
+pieces-without (suc n) b = pieces-without n (drop 32 b)
+
+module _ (r : Reading) where
+  -- a dwell has one
+  dwell-pair : (b : List ℕ) → firstRow (dwellRows r b) ≡ Passed → pairsOn (dwellRecords r b) ≡ pairOf (dwellFields b) ∷ []
+  unfolding pairsOn dwellRecords dwellRecord recordOf
+  dwell-pair b p =
+      let long : 8 ≤ length b = omega (arith, is-dwell r b p .long) in
+      ap₂ (λ (q : Pair) (qs : List Pair). q ∷ qs) (record-pair r b long) (targets-without _ _ _ _)
+
+  -- any other segment has none
+  segment-pairs : (s : Segment) → firstRow (bodyRows r (s .type) (s .body)) ≡ Passed → pairsOn (segmentRecords r s) ≡ cond (eqb (s .type) 2) (pairOf (dwellFields (s .body)) ∷ []) []
+  unfolding pairsOn segmentRecords bodyRows jobRecords textRecords opaqueRecords recordOf
+  segment-pairs s =
+      let b = s .body in
+      by-number (λ (t : ℕ). firstRow (bodyRows r t b) ≡ Passed → pairsOn (segmentRecords r (record { type = t; body = b })) ≡ cond (eqb t 2) (pairOf (dwellFields b) ∷ []) [])
+      (λ p. refl)
+      (dwell-pair b)
+      (λ p. refl)
+      (λ p. pieces-without _ _)
+      (λ p. refl)
+      (λ p. refl)
+      (λ t h1 h2 h5 h6 h10 h13 p. rw (h1, h2, h5, h6, h10, h13) (pieces-without _ _))
+      (s .type)
+
+  -- so the records of all segments have the pairs of the dwells
+  pub pairs-are : (ss : List Segment) → AllSound r ss → pairsOn (packetRecords r ss) ≡ pairsIn ss
+  unfolding pairsOn packetRecords pairsIn
+  pairs-are [] h = refl
+  pairs-are (s ∷ ss) h =
+      pairs-append (segmentRecords r s) (packetRecords r ss)
+      ∙ ap₂ (λ (x y : List Pair). x ++ y) (segment-pairs s (h .0 .rows)) (pairs-are ss (h .1))
+      ∙ one (eqb (s .type) 2)
+    where
+      one : (t : Bool) → cond t (pairOf (dwellFields (s .body)) ∷ []) [] ++ pairsIn ss ≡ cond t (pairOf (dwellFields (s .body)) ∷ pairsIn ss) (pairsIn ss)
+      one true = refl
+      one false = refl
+
+-- ---- what lets the count be believed
+
+-- the same pair is an equal one
+equal : (p q : Pair) → isSamePair p q ≡ true → p ≡ q
+unfolding isSamePair
+equal p q e =
+    let tests = both (eqb (p .d2) (q .d2)) (eqb (p .d3) (q .d3)) e in
+    ap₂ (λ (d2 d3 : ℕ). record { d2 = d2; d3 = d3 }) (eqb-true (p .d2) (q .d2) (tests .0)) (eqb-true (p .d3) (q .d3) (tests .1))
+
+pub different-pairs : DifferentPairs
+unfolding isSamePair
+different-pairs = record {
+  same-are-equal = equal;
+  equal-are-same = λ p. ap₂ _&&_ (eq-eqb (p .d2) (p .d2) refl) (eq-eqb (p .d3) (p .d3) refl);
+  all-of-them = same-members isSamePair equal;
+  none-twice = none-twice isSamePair equal;
+}
