@@ -1,23 +1,25 @@
--- Lines of fields: what is laid out in two steps, one after the other, is laid out in one; and blocks of fields, which a copy or zeros lay out.
+-- Lines of fields: what is laid out in two steps, one after the other, is laid out in one; blocks of fields, which a copy or zeros lay out;
+-- and fields laid out onto zeros.
 -- Assumes nothing.
 use mathlib.Core.Path.{_≡_, refl, sym, ap, _∙_}
 use mathlib.Core.Bool.{Bool, true, false, not, _&&_, and-true, and-eq-true-iff}
-use mathlib.Core.List.{List, [], _∷_, _++_}
-use Prim.Native.Nat.{ℕ, zero, suc, _+_, _≤_}
+use mathlib.Core.List.{List, [], _∷_, _++_, append-assoc}
+use Prim.Native.Nat.{ℕ, zero, suc, _+_, _-_, _≤_}
 use native.Mathlib.Nat.{suc-add, zero-add, add-assoc}
 use native.Mathlib.Omega.{arith}
 use lib.Bits.{bitAnd}
 use lib.Dec.{eqb}
 use borrow.Author.Tests.{eqb-true, not-true}
-use lib.ListN.{length, take, drop, length-drop}
-use lib.Seq.{sets, drop-drop, take-add}
+use lib.ListN.{length, set, take, drop, length-drop, take-append-drop}
+use lib.Seq.{sets, sets-eq, drop-set-lt, drop-drop, take-take, take-add, take-at, drop-at, length-take-le}
 use Rattle.octets.specs.Layout.{pad, total}
 use Rattle.octets.proofs.Laws.{then}
-use Rattle.octets.proofs.Layouts.{pad-take}
+use Rattle.octets.proofs.Layouts.{length-pad, pad-take}
+use Rattle.copies.proofs.Stores.{sets-again}
 use Rattle.mask.specs.Fields.{announced, announcedLength, fullFields}
 use Rattle.mask.proofs.FullWidth.{length-full, announced-append, full-append}
 use Rattle.mask.proofs.Bit.{set-and, set-none}
-use Rattle.unpack.specs.InnerLaid.{Room, Laid}
+use Rattle.unpack.specs.InnerLaid.{Room, Laid, Clear}
 use Rattle.unpack.proofs.Together.{allSet, noneSet}
 
 -- ---- lines
@@ -111,3 +113,75 @@ module _ {mask n p q : ℕ} {ws s l : List ℕ} where
 
     pub cleared : {a : List ℕ} → b ≡ eqb (bitAnd mask set) 0 → b ≡ true → allSet set n ws ≡ true → a ≡ sets l q (pad (total ws) []) → Laid mask n ws s p l q p a
     cleared e t every = blank (none-of mask set n ws (eqb-true _ _ (sym e ∙ t)) every)
+
+-- ---- onto zeros
+
+-- of m zeros from q on, the first j; and the k from j behind q on
+pub clear-front : (j : ℕ) {m q : ℕ} {l : List ℕ} → j ≤ m → Clear m l q → Clear j l q
+clear-front j {m} {q} {l} h c =
+    let n : m ≡ j + (m - j) = omega arith in
+    record {
+      zeros = sym (take-take j m (drop q l) h) ∙ ap (take j) (c .zeros ∙ ap (λ (i : ℕ). pad i []) n ∙ zeros-append j (m - j))
+          ∙ take-at (pad j []) (pad (m - j) []) j (length-pad j []);
+    }
+
+clear-part : (j k : ℕ) {m q : ℕ} {l : List ℕ} → j + k ≤ m → Clear m l q → Clear k l (q + j)
+clear-part j k {m} {q} {l} h c =
+    let both = clear-front (j + k) h c .zeros in
+    let front = clear-front j (omega arith) c .zeros in
+    let part = take k (drop j (drop q l)) in
+    let joined : pad j [] ++ part ≡ pad j [] ++ pad k [] =
+    ap (λ (x : List ℕ). x ++ part) (sym front) ∙ sym (take-add j k (drop q l)) ∙ both ∙ zeros-append j k in
+    record {
+      zeros = ap (take k) (sym (drop-drop j q l)) ∙ sym (drop-at (pad j []) part j (length-pad j [])) ∙ ap (drop j) joined
+          ∙ drop-at (pad j []) (pad k []) j (length-pad j []);
+    }
+
+-- stores in front of a place leave everything from it on
+drop-sets : (vs l : List ℕ) (i n : ℕ) → i + length vs ≤ n → drop n (sets l i vs) ≡ drop n l
+drop-sets [] l i n h = refl
+drop-sets (v ∷ vs) l i n h = drop-sets vs (set l i v) (suc i) n (omega arith) ∙ drop-set-lt n l i v (omega arith)
+
+-- so fields that are laid out leave the zeros behind them
+pub clear-behind : {mask n p q r m : ℕ} {us s l a : List ℕ} (k : ℕ) → total us + k ≤ m → Clear m l q → Laid mask n us s p l q r a → Clear k a (q + total us)
+clear-behind {mask} {n} {p} {q} {us = us} {s} {l} k h c f =
+    let full = fullFields mask n us (drop p s) in
+    let same = ap (drop (q + total us)) (f .stored) ∙ drop-sets full l q (q + total us) (omega (arith, length-full mask n us (drop p s))) in
+    record { zeros = ap (take k) same ∙ clear-part (total us) k h c .zeros }
+
+module _ {mask n p q : ℕ} {ws s l : List ℕ} where
+  -- where zeros were stored, they are
+  pub clear-stored : {a : List ℕ} → Room mask n ws s p l q → a ≡ sets l q (pad (total ws) []) → Clear (total ws) a q
+  clear-stored h ha =
+      let long = length-pad (total ws) [] in
+      let z = pad (total ws) [] in
+      let rest = drop (q + length z) l in
+      let i : q + length z ≤ length l = omega (arith, long) in
+      record {
+        zeros = ap (λ (x : List ℕ). take (total ws) (drop q x)) (ha ∙ sets-eq z l q i ∙ append-assoc (take q l) z rest)
+            ∙ ap (take (total ws)) (drop-at (take q l) (z ++ rest) q (length-take-le q l (omega arith)))
+            ∙ take-at z rest (total ws) long;
+      }
+
+  -- fields of which none is announced are laid out where their places have zeros already
+  pub blank-there : Room mask n ws s p l q → noneSet mask n ws ≡ true → Clear (total ws) l q → Laid mask n ws s p l q p l
+  blank-there h e c =
+      let long = length-pad (total ws) [] in
+      let z = pad (total ws) [] in
+      let i : q + length z ≤ length l = omega (arith, long) in
+      let there : z ++ drop (q + length z) l ≡ drop q l =
+      ap (λ (m : ℕ). z ++ drop (q + m) l) long ∙ ap (λ (x : List ℕ). z ++ x) (sym (drop-drop (total ws) q l))
+      ∙ ap (λ (x : List ℕ). x ++ drop (total ws) (drop q l)) (sym (c .zeros)) ∙ take-append-drop (total ws) (drop q l) in
+      blank e
+      (sym
+      (sets-eq z l q i ∙ append-assoc (take q l) z (drop (q + length z) l) ∙ ap (λ (x : List ℕ). take q l ++ x) there ∙ take-append-drop q l))
+
+  -- fields laid out where zeros were stored before are laid out
+  pub onto-zeros : {r : ℕ} {a b : List ℕ} → a ≡ sets l q (pad (total ws) []) → Laid mask n ws s p a q r b → Laid mask n ws s p l q r b
+  onto-zeros ha f =
+      let full = fullFields mask n ws (drop p s) in
+      record {
+        next = f .next;
+        stored = f .stored ∙ ap (λ (x : List ℕ). sets x q full) ha
+            ∙ sets-again (pad (total ws) []) full l q (omega (arith, length-pad (total ws) [], length-full mask n ws (drop p s)));
+      }

@@ -3,10 +3,10 @@
 -- Assumes nothing.
 use Prim.Native.Nat.{ℕ, _+_, _≤_}
 use mathlib.Core.Path.{_≡_}
-use mathlib.Core.List.{List}
-use lib.ListN.{length, drop}
+use mathlib.Core.List.{List, []}
+use lib.ListN.{length, take, drop}
 use lib.Seq.{sets}
-use Rattle.octets.specs.Layout.{total}
+use Rattle.octets.specs.Layout.{total, pad}
 use Rattle.mask.specs.Fields.{announcedLength, fullFields}
 
 -- s has the announced ones, and l has room for all
@@ -18,3 +18,7 @@ pub record Room (mask n : ℕ) (ws s : List ℕ) (p : ℕ) (l : List ℕ) (q : �
 pub record Laid (mask n : ℕ) (ws s : List ℕ) (p : ℕ) (l : List ℕ) (q r : ℕ) (a : List ℕ) : Type 0 where
   pub next : r ≡ p + announcedLength mask n ws
   pub stored : a ≡ sets l q (fullFields mask n ws (drop p s))
+
+-- l has k zeros from q on
+pub record Clear (k : ℕ) (l : List ℕ) (q : ℕ) : Type 0 where
+  pub zeros : take k (drop q l) ≡ pad k []

@@ -1,11 +1,12 @@
-// One announced field laid out at its full width: from p on in s, to q on in o; each of `field1`, `field2` and `field4` answers where the
-// next field begins in s. The functions of dwells and targets, which lay out several, promise the same over longer lists of widths.
+// One announced field laid out at its full width: from p on in s, to q on in o; each of `field1`, `field2`, `field2_onto_zeros` and `field4`
+// answers where the next field begins in s. The functions of dwells and targets, which lay out several, promise the same over longer lists of
+// widths.
 ghost use mathlib.Core.Path.{_≡_};
 ghost use mathlib.Core.List.{[], _∷_};
 ghost use Prim.Native.Nat.{_≤_};
 ghost use lib.Bits.{bitAnd};
 ghost use lib.Dec.{eqb};
-ghost use Rattle.unpack.specs.InnerLaid.{Room, Laid};
+ghost use Rattle.unpack.specs.InnerLaid.{Room, Laid, Clear};
 
 pub fn field1(s: &[u8], p: usize, mask: u64, n: usize, o: &mut [u8], q: usize) -> usize
     requires { ⌜ (2 ≤ n) × (n ≤ 65) × Room mask n (1 ∷ []) (now s) p (now o) q ⌝ }
@@ -29,6 +30,20 @@ pub fn field2(s: &[u8], p: usize, mask: u64, n: usize, o: &mut [u8], q: usize) -
         p + 2
     } else {
         copies::clear2(o, q);
+        p
+    }
+}
+
+// The same onto zeros: an absent field stores nothing, and both bytes of an announced one are one move. For a field of one byte this is
+// no faster than `field1`.
+pub fn field2_onto_zeros(s: &[u8], p: usize, mask: u64, n: usize, o: &mut [u8], q: usize) -> usize
+    requires { ⌜ (2 ≤ n) × (n ≤ 65) × Room mask n (2 ∷ []) (now s) p (now o) q × Clear 2 (now o) q ⌝ }
+    ensures { λ r. ⌜ Laid mask n (2 ∷ []) (now (s .entry)) p (now (o .entry)) q r (now (o .exit)) ⌝ }
+{
+    if mask::has(mask, n) {
+        copies::copy2(s, p, o, q);
+        p + 2
+    } else {
         p
     }
 }

@@ -2,7 +2,7 @@
 // Fields that mostly come together are copied as one block where the mask has them all, and cleared as one where it has none.
 ghost use Rattle.mask.specs.Fields.{d32, targetWidths};
 ghost use Rattle.mask.specs.InnerFields.{widths};
-ghost use Rattle.unpack.specs.InnerLaid.{Room, Laid};
+ghost use Rattle.unpack.specs.InnerLaid.{Room, Laid, Clear};
 
 // D32.2 and D32.3.
 fn places(s: &[u8], p: usize, mask: u64, o: &mut [u8], q: usize) -> usize
@@ -39,25 +39,25 @@ fn deltas(s: &[u8], p: usize, mask: u64, o: &mut [u8], q: usize) -> usize
 }
 
 fn d32_6_to_10(s: &[u8], p: usize, mask: u64, o: &mut [u8], q: usize) -> usize
-    requires { ⌜ Room mask (d32 6) (widths (d32 6) (d32 10)) (now s) p (now o) q ⌝ }
+    requires { ⌜ Room mask (d32 6) (widths (d32 6) (d32 10)) (now s) p (now o) q × Clear 8 (now o) q ⌝ }
     ensures { λ r. ⌜ Laid mask (d32 6) (widths (d32 6) (d32 10)) (now (s .entry)) p (now (o .entry)) q r (now (o .exit)) ⌝ }
 {
-    let a = unpack::field2(s, p, mask, 37, o, q);
-    let b = unpack::field2(s, a, mask, 38, o, q + 2);
-    let c = unpack::field2(s, b, mask, 39, o, q + 4);
+    let a = unpack::field2_onto_zeros(s, p, mask, 37, o, q);
+    let b = unpack::field2_onto_zeros(s, a, mask, 38, o, q + 2);
+    let c = unpack::field2_onto_zeros(s, b, mask, 39, o, q + 4);
     let d = unpack::field1(s, c, mask, 40, o, q + 6);
     unpack::field1(s, d, mask, 41, o, q + 7)
 }
 
 fn d32_11_to_15(s: &[u8], p: usize, mask: u64, o: &mut [u8], q: usize) -> usize
-    requires { ⌜ Room mask (d32 11) (widths (d32 11) (d32 15)) (now s) p (now o) q ⌝ }
+    requires { ⌜ Room mask (d32 11) (widths (d32 11) (d32 15)) (now s) p (now o) q × Clear 8 (now o) q ⌝ }
     ensures { λ r. ⌜ Laid mask (d32 11) (widths (d32 11) (d32 15)) (now (s .entry)) p (now (o .entry)) q r (now (o .exit)) ⌝ }
 {
     let a = unpack::field1(s, p, mask, 42, o, q);
-    let b = unpack::field2(s, a, mask, 43, o, q + 1);
-    let c = unpack::field2(s, b, mask, 44, o, q + 3);
+    let b = unpack::field2_onto_zeros(s, a, mask, 43, o, q + 1);
+    let c = unpack::field2_onto_zeros(s, b, mask, 44, o, q + 3);
     let d = unpack::field1(s, c, mask, 45, o, q + 5);
-    unpack::field2(s, d, mask, 46, o, q + 6)
+    unpack::field2_onto_zeros(s, d, mask, 46, o, q + 6)
 }
 
 // D32.6 to D32.15.
@@ -72,6 +72,7 @@ fn middle(s: &[u8], p: usize, mask: u64, o: &mut [u8], q: usize) -> usize
         copies::clear16(o, q);
         p
     } else {
+        copies::clear16(o, q); // onto which the announced ones go
         let a = d32_6_to_10(s, p, mask, o, q);
         d32_11_to_15(s, a, mask, o, q + 8)
     }
