@@ -2,7 +2,7 @@
  *
  * Link libgmti.a, which `rt staticlib gmti` proves and builds for x86-64. docs/MANUAL.md explains the sheet and the refusals.
  *
- * Both functions take any bytes. What the caller must see to:
+ * gmti_read and gmti_write take any bytes. What the caller must see to:
  * - A pointer leads to as many bytes as its length says. It may be null only where its length is 0.
  * - `answer` leads to seven numbers.
  * - No two of the runs of bytes and the answer overlap.
@@ -21,8 +21,9 @@ extern "C" {
 /* No packet has more bytes than this. */
 #define GMTI_LONGEST_PACKET 65536
 
-/* No packet has a sheet of more bytes than this. */
-#define GMTI_LONGEST_SHEET 736953
+/* No packet has a sheet of more bytes than this, which is what gmti_sheet_bound gives for GMTI_LONGEST_PACKET. It is for memory that is
+ * set aside when a program is compiled. */
+#define GMTI_LONGEST_SHEET (33 + 45 * (GMTI_LONGEST_PACKET - 32) / 4)
 
 /* The places of an answer. Accepted: the first three are 0. Refused: the last four are 0. */
 enum {
@@ -43,6 +44,11 @@ void gmti_read(uint32_t edition, const uint8_t *packet, size_t packet_length, ui
 /* Writes the packet that reads, as Edition 3, to just this sheet. An accepted sheet fills the first answer[GMTI_LENGTH] bytes of the
  * lent packet and leaves the rest as it was; a refused one leaves the whole packet as it was. It takes some 72 kB of stack. */
 void gmti_write(const uint8_t *sheet, size_t sheet_length, uint8_t *packet, size_t packet_length, uint32_t answer[7]);
+
+/* How many bytes to lend for the sheet of a packet of packet_length bytes: lent so many, gmti_read does not refuse it with 16, whatever its
+ * bytes are. It is 33 + 45 * (packet_length - 32) / 4, rounded down; 0 for a length under 32 or above GMTI_LONGEST_PACKET, which no packet
+ * has. */
+size_t gmti_sheet_bound(size_t packet_length);
 
 #ifdef __cplusplus
 }

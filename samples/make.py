@@ -76,6 +76,13 @@ def split_dwell():
     return dwell(place(7), found[:3]), dwell(place(7), found[3:])
 
 
+def long_sheet(count):
+    """One dwell with so many targets by deltas, text of spaces and all else zero: what gmti_longest writes for this count."""
+    found = dwell({n: 0 for n in [*range(2, 12), *range(24, 28)]}, [{4: 0, 5: 0}] * count)
+    owner = text("", 2) + number(0, 1) + text("", 2) + number(0, 2) + number(0, 1) + text("", 10)
+    return b"30" + number(32 + len(found), 4) + owner + number(0, 4) + number(0, 4) + found
+
+
 def dwell_every_field(count):
     """A dwell with every field that Edition 1 allows beside deltas from the centre, here in units of 64 steps."""
     flight = {10: 64, 11: 64, 12: 250, 13: 250, 14: 300, 15: angle(92.5, 16), 16: 62_000, 17: -3, 18: 1, 19: 150, 20: 20}
@@ -143,6 +150,7 @@ def samples():
         "new_radar_mode": packet(b"30", mission, job(101)),
         "version_1_dwell_and_job": packet(b"10", dwell(place(0), three), job(1)),
         "version_3_dwell_and_job": packet(b"30", dwell(place(0), three), job(1)),
+        "long_sheet": long_sheet(1453),
         "damaged_height": packet(b"30", dwell(place(5), bad)),
         "damaged_cut_short": packet(b"30", dwell(place(0), three))[:-10],
         "split_dwell": packet(b"30", *split_dwell()),  # last, so that the others keep what they drew of SCATTER

@@ -1,4 +1,4 @@
-"""Tries faults of the system on the five programs: reads and writes that fail, are interrupted, come late or in pieces.
+"""Tries faults of the system on the six programs: reads and writes that fail, are interrupted, come late or in pieces.
 
     python3 tests/faults.py [FOLDER]        FOLDER has the programs; without it, target/bin of this repository
 
@@ -21,7 +21,7 @@ import tempfile
 import termios
 import time
 from collections.abc import Callable, Iterator, Sequence
-from contextlib import contextmanager
+from contextlib import ExitStack, contextmanager
 from io import FileIO
 from pathlib import Path
 from typing import BinaryIO, NamedTuple
@@ -37,7 +37,6 @@ COPIES = 480  # segments of a long packet: its sheet still fits the 65,536 bytes
 LINES = 3000  # of a long list
 LINE_SIZE = 10_000  # bytes that a line of it has at most: those of full packets would make it some 25 MB long
 LONGEST_PACKET = 65_536
-LONGEST_SHEET = 736_953
 LONGEST_LINE = 262_144  # with its line feed
 
 # Stands between a program and the system. The environment sets it. FAULTS_STEP: a call moves at most so many bytes, and
@@ -296,6 +295,24 @@ def fed(bench: Bench, program: Program, parts: Sequence[bytes]) -> Outcome:
         return started.end()
 
 
+def piped(bench: Bench, given: bytes, programs: Sequence[Program]) -> Outcome:
+    """The last of the programs, each with a pipe to the next. All complaints count, and a status that is not 0."""
+    with ExitStack() as stack:
+        source: Stream = stack.enter_context(file_of(given))
+        started = []
+        for program in programs[:-1]:
+            reader, writer = stack.enter_context(pipe())
+            started.append(Run(bench, program, source, stdout=writer))
+            source.close()  # so that only the programs have the pipes, and each sees when another ends
+            writer.close()
+            source = reader
+        started.append(Run(bench, programs[-1], source))
+        source.close()
+        came = [run.end() for run in started]
+    status = next((outcome.status for outcome in came if outcome.status != 0), 0)
+    return Outcome(status, came[-1].out, b"".join(outcome.err for outcome in came))
+
+
 # ---- What is expected
 
 
@@ -546,9 +563,10 @@ def lengths(bench: Bench, program: Program) -> Iterator[Trial]:
             longer = program.given.ljust(size, b"\0")
             yield answered(f"a packet and zeros, {size:,} bytes", b"no 2 0 0\n", run(bench, program, longer))
     if program.name == "gmti_write":
-        yield answered("736,953 zeros", b"no 17 0 0\n", run(bench, program, bytes(LONGEST_SHEET)))
+        longest = bound(LONGEST_PACKET)
+        yield answered(f"{longest:,} zeros", b"no 17 0 0\n", run(bench, program, bytes(longest)))
         line = b"gmti_write: standard input is longer than any sheet\n"
-        for size in LONGEST_SHEET + 1, 1_000_000:
+        for size in longest + 1, 1_000_000:
             yield held(f"{size:,} zeros", [Outcome(0, b"", line)], run(bench, program, bytes(size)))
             longer = program.given.ljust(size, b"\0")
             yield held(f"a sheet and zeros, {size:,} bytes", [Outcome(0, b"", line)], run(bench, program, longer))
@@ -643,7 +661,113 @@ def spelling(bench: Bench, program: Program) -> Iterator[Trial]:
     yield answered("no line feed at the end", program.answer, run(bench, program, program.whole()))
 
 
+# ---- The number that gmti_longest reads
+
+
+GOOD_NUMBERS = [1, 2, 3, 9, 10, 99, 100, 1453, 1454, 9999, 10_000, 16_361, 16_362]
+BAD_NUMBERS = [
+    ("a line feed alone", b"\n"),
+    ("0", b"0"),
+    ("0 and a line feed", b"0\n"),
+    ("zeros", b"000"),
+    ("a zero in front", b"05"),
+    ("zeros in front, within five digits", b"00005\n"),
+    ("a plus sign", b"+5"),
+    ("a minus sign", b"-5"),
+    ("a space in front", b" 5"),
+    ("a space behind", b"5 "),
+    ("a tab behind", b"5\t"),
+    ("a carriage return and a line feed", b"5\r\n"),
+    ("a line feed in front", b"\n5"),
+    ("two line feeds", b"5\n\n"),
+    ("two line feeds behind five digits", b"16362\n\n"),
+    ("two numbers on a line", b"5 5"),
+    ("two lines", b"5\n5"),
+    ("two lines with line feeds", b"5\n5\n"),
+    ("a line feed and a carriage return", b"5\n\r"),
+    ("one above the most", b"16363"),
+    ("one above the most, and a line feed", b"16363\n"),
+    ("five digits", b"99999"),
+    ("six digits", b"100000"),
+    ("six digits and a line feed", b"163620\n"),
+    ("65,536 above a good one", b"65541"),
+    ("2 to the 32 above a good one", b"4294967301"),
+    ("2 to the 64 above a good one", b"18446744073709551621"),
+    ("a letter behind the most", b"16362x"),
+    ("a letter behind the most, and a line feed", b"16362x\n"),
+    ("a letter behind the most and a line feed", b"16362\nx"),
+    ("a letter", b"x"),
+    ("hex digits", b"0x5"),
+    ("a fraction", b"5.0"),
+    ("a power", b"1e3"),
+    ("the characters beside the digits", b"/:"),
+    ("a byte above 127", b"5\xb2"),
+    ("a byte that is a digit but for its highest bit", b"\xb5"),
+    ("20 digits", b"1" * 20),
+    ("100,000 digits", b"1" * 100_000),
+    ("100,000 zeros and a digit", b"0" * 100_000 + b"5"),
+    ("a digit and 100,000 line feeds", b"5" + b"\n" * 100_000),
+    ("a zero byte", b"\0"),
+    ("a zero byte in front", b"\x005"),
+    ("a zero byte behind", b"5\0"),
+    ("a zero byte behind the line feed", b"5\n\0"),
+    ("a zero byte for the line feed, behind five digits", b"16362\0"),
+    ("100,000 zero bytes", bytes(100_000)),
+]
+
+
+def numbers(bench: Bench, program: Program) -> Iterator[Trial]:
+    """A number in digits with no leading zero, and at most one line feed behind it; for all else nothing is written."""
+    if program.name != "gmti_longest":
+        return
+    for k in GOOD_NUMBERS:
+        for end in b"", b"\n":
+            given = b"%d" % k + end
+            yield answered(f"the number {given!r}", longest_packet(k), run(bench, program, given))
+    sample = (ROOT / "samples" / "long_sheet.gmti").read_bytes()
+    yield answered("the number of the sample", sample, run(bench, program, b"1453"))
+    for fault, given in BAD_NUMBERS:
+        yield answered(fault, b"", run(bench, program, given))
+
+
+def pipelines(bench: Bench, program: Program) -> Iterator[Trial]:
+    """What is written is a packet to the other programs. gmti_read lends 65,536 bytes, and 1,453 targets just fit."""
+    if program.name != "gmti_longest":
+        return
+    reader, writer = program._replace(name="gmti_read"), program._replace(name="gmti_write")
+    sheet = program._replace(name="gmti_sheet", arguments=["3"])
+    fitting = [(k, b"ok 1 1 %d %d\n" % (k, 121 + 45 * k) + b"0 0\n" * k) for k in (1, 1453)]
+    for k, printed in fitting + [(k, b"no 16 0 0\n") for k in (1454, 16_362)]:
+        came = piped(bench, b"%d\n" % k, [program, reader])
+        yield answered(f"{k} targets, piped into gmti_read", printed, came)
+    for k in 1, 1453, 1454, 16_362:
+        length = len(piped(bench, b"%d\n" % k, [program, sheet]).out)
+        due = bound(88 + 4 * k) - 542
+        yield Trial(f"{k} targets, piped into gmti_sheet", f"{due} bytes", f"{length} bytes", length == due)
+        came = piped(bench, b"%d\n" % k, [program, sheet, writer])
+        yield answered(f"{k} targets, piped into gmti_sheet and gmti_write", longest_packet(k), came)
+
+
 # ---- The programs
+
+
+def number(value: int, width: int) -> bytes:
+    return value.to_bytes(width, "big")
+
+
+def longest_packet(k: int) -> bytes:
+    """One dwell with k targets by deltas: P1 30, text of spaces, and zero but for sizes, type, mask and D5."""
+    texts = b"  " + bytes(1) + b"  " + bytes(3) + b" " * 10 + bytes(8)  # P3 to P10, of which P3, P5 and P8 are text
+    fields = [*range(2, 12), *range(24, 28), 31 + 4, 31 + 5]  # D2 to D11, D24 to D27, D32.4 and D32.5
+    mask = sum(1 << 65 - field for field in fields)
+    body = number(mask, 8) + bytes(2 + 2 + 1) + number(k, 2) + bytes(4 * 6 + 4 + 4 + 2 + 2) + bytes(4) * k
+    segment = number(2, 1) + number(5 + len(body), 4) + body
+    return b"30" + number(32 + len(segment), 4) + texts + segment
+
+
+def bound(n: int) -> int:
+    """No packet of n bytes, 32 to LONGEST_PACKET, has a longer sheet."""
+    return 33 + 45 * (n - 32) // 4
 
 
 def lines_of(content: bytes) -> list[bytes]:
@@ -682,6 +806,12 @@ def packet_program(
     return Program(name, arguments, given[0], answer[0], twice, nothing, given[1], answer[1], False)
 
 
+def longest_program() -> Program:
+    """Half the number would have an answer too. Two numbers get none, nor does an empty input."""
+    few, many = longest_packet(1453), longest_packet(16_362)
+    return Program("gmti_longest", [], b"1453\n", few, b"", b"", b"16362\n", many, False)
+
+
 def list_program(name: str, last: bytes) -> Program:
     """A short list whose last packet is accepted; a long one, over a megabyte, with a number before each name."""
     lines, answers = listed(name)
@@ -711,6 +841,7 @@ def programs() -> list[Program]:
         packet_program("gmti_sheet", ["3"], packets, newers),
         packet_program("gmti_sheet", ["1"], packets, (older, many_segments(older, 33))),
         packet_program("gmti_write", [], newers, packets),
+        longest_program(),
         list_program("gmti_trials", b"trial 92 bytes exact"),
         list_program("gmti_editions", b"trial"),
     ]
@@ -733,6 +864,8 @@ FAULTS: list[Callable[[Bench, Program], Iterator[Trial]]] = [
     faulty_lines,
     long_lines,
     spelling,
+    numbers,
+    pipelines,
 ]
 
 

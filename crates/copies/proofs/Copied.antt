@@ -9,6 +9,7 @@ use native.Mathlib.Omega.{arith}
 use lib.ListN.{length, getD, set, take, drop, length-take, length-drop, take-append-drop, drop-of-length-le}
 use lib.Seq.{sets, drop-cons, drop-drop, getD-drop, take-add, take-all, length-take-le}
 use Rattle.octets.specs.Octets.{be, bytes, Bytes}
+use Rattle.octets.specs.Layout.{pad}
 use Rattle.octets.proofs.Laws.{bytes-be, then}
 use Rattle.copies.proofs.Stores.{sets-again}
 
@@ -58,3 +59,23 @@ copied-first s o q = rw add-zero
 
 pub copied-last : (s o w : List ℕ) (q i : ℕ) → length s ≤ i → sets o (q + i) (drop i s) ≡ w → o ≡ w
 copied-last s o w q i h e = rw (drop-of-length-le s h) at e
+
+-- zeros stored byte by byte, likewise
+pub cleared-next : (o w : List ℕ) (q n i : ℕ) → i < n → sets o (q + i) (pad (n - i) []) ≡ w → sets (set o (q + i) 0) (q + (i + 1)) (pad (n - (i + 1)) []) ≡ w
+unfolding pad
+cleared-next o w q n i h e =
+    let at : q + (i + 1) ≡ suc (q + i) = omega arith in
+    let more : n - i ≡ suc (n - (i + 1)) = omega arith in
+    rw at (rw more at e)
+
+pub cleared-first : (o : List ℕ) (q n : ℕ) → sets o (q + 0) (pad (n - 0) []) ≡ sets o q (pad n [])
+cleared-first o q n =
+    let at : q + 0 ≡ q = omega arith in
+    let all : n - 0 ≡ n = omega arith in
+    rw (at, all)
+
+pub cleared-last : (o w : List ℕ) (q n i : ℕ) → n ≤ i → sets o (q + i) (pad (n - i) []) ≡ w → o ≡ w
+unfolding pad
+cleared-last o w q n i h e =
+    let none : n - i ≡ 0 = omega arith in
+    rw none at e

@@ -176,3 +176,13 @@ pub fn clear32(o: &mut [u8], q: usize)
     clear16(o, q);
     clear16(o, q + 16);
 }
+
+// So many zeros, byte by byte: for runs of any length.
+pub fn clear_all(o: &mut [u8], q: usize, n: usize)
+    requires { ⌜ q + n ≤ length (now o) ⌝ }
+    ensures { λ _. ⌜ now (o .exit) ≡ cleared n (now (o .entry)) q ⌝ }
+{
+    for i in 0..n {
+        o[q + i] = 0;
+    }
+}

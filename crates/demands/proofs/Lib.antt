@@ -17,5 +17,6 @@ pub mod OlderRecords
 pub mod Editions
 pub mod Version1
 pub mod Numbers
+pub mod Bound
 pub mod Longitudes
 pub mod Named

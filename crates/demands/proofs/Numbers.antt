@@ -6,7 +6,7 @@
 use Prim.Native.Nat.{ℕ, zero, suc, _+_, _^_, _≤_, _<_}
 use native.Mathlib.Omega.{arith}
 use mathlib.Core.Path.{_≡_, refl}
-use mathlib.Core.Bool.{Bool, true, false, cond, _&&_}
+use mathlib.Core.Bool.{Bool, true, false, not, cond, _&&_}
 use mathlib.Core.List.{List, [], _∷_, _++_}
 use borrow.Author.Tests.{ltb-false, leb-true}
 use lib.Dec.{T, ltb, leb, eqb, lit<, lit≤}
@@ -27,10 +27,10 @@ use Rattle.format.specs.Packet.{headerWidths, headerTexts, Segment, typeAt, siz
 use Rattle.format.specs.Dwell.{maskOf, dwellFields, targetCount, targetsOf, targetLength, pairOf, isSamePair, areaOf}
 use Rattle.format.specs.Edition.{asEdition, isOlder}
 use Rattle.format.specs.Sheet.{Record, bodyLength}
-use Rattle.format.specs.Lengths.{longestSheet}
 use Rattle.format.specs.Answer.{numbersOf}
 use Rattle.format.specs.Rows.{Row, firstRow, headerRows, missionRows, targetRows, targetsRows, dwellRows, jobRows, textRows, keptRows, bodyRows, segmentRows}
 use Rattle.format.specs.Reader.{Parsed, onward, parse, pairsIn, dwellsIn, targetsIn, readingOf, parsed, sheet, segmentsAnswer, readingAnswer, read}
+use Rattle.format.specs.Bound.{longestSheet}
 use Rattle.format.specs.Writer.{Listed, list, listed, spell, sheetRows, writerRows, writerAnswer, writingAnswer, write}
 use Rattle.format.proofs.Rows.{first-passes, either, neither, both}
 use Rattle.format.proofs.Acceptance.{header-sized}
@@ -76,103 +76,121 @@ new-field mask =
 
 -- ---- the rows
 
--- where a row applies, its number is at most 20, the table's last, and it names a field
-unfoldable Small : Check → Type 0
-Small Passed = Unit {0}
-Small (Failed number field) = (number ≤ 20) × IsField field
+-- a number of the table, whose last is 20, but for 16: that one is given at the end, and by no row of a list
+abbrev isRowNumber : ℕ → Bool
+isRowNumber n = leb n 20 && not (eqb n 16)
+
+-- where a row applies, it has such a number, and names a field
+unfoldable pub Proper : Check → Type 0
+Proper Passed = Unit {0}
+Proper (Failed number field) = (isRowNumber number ≡ true) × IsField field
 
 -- each row of a list has such a number and field
-data AllSmall : List Row → Type 0 where
-  none : AllSmall []
-  more : {r : Row} {rs : List Row} → T (leb (r .number) 20) → IsField (r .field) → AllSmall rs → AllSmall (r ∷ rs)
+data AllProper : List Row → Type 0 where
+  none : AllProper []
+  more : {r : Row} {rs : List Row} → T (isRowNumber (r .number)) → IsField (r .field) → AllProper rs → AllProper (r ∷ rs)
 
 -- a row whose field is fixed, before others
-fixed : {r : Row} {rs : List Row} → T (leb (r .number) 20) → T (leb (r .field) 65) → AllSmall rs → AllSmall (r ∷ rs)
+fixed : {r : Row} {rs : List Row} → T (isRowNumber (r .number)) → T (leb (r .field) 65) → AllProper rs → AllProper (r ∷ rs)
 fixed n f h = more n (lit≤ f) h
 
+-- a test that computes to true holds
+holds : (t : Bool) → T t → t ≡ true
+holds true h = refl
+holds false h = absurd h
+
 -- the first row that applies is one of the list
-first-small : {rs : List Row} → AllSmall rs → Small (firstRow rs)
-unfolding firstRow Small
-first-small none = tt
-first-small (more {r} {rs} n f h) = either Small (r .applies) (lit≤ n, f) (first-small h)
+first-proper : {rs : List Row} → AllProper rs → Proper (firstRow rs)
+unfolding firstRow Proper
+first-proper none = tt
+first-proper (more {r} {rs} n f h) = either Proper (r .applies) (holds (isRowNumber (r .number)) n, f) (first-proper h)
 
 -- two lists in a row
-append-small : {rs qs : List Row} → AllSmall rs → AllSmall qs → AllSmall (rs ++ qs)
-append-small none k = k
-append-small (more n f h) k = more n f (append-small h k)
+append-proper : {rs qs : List Row} → AllProper rs → AllProper qs → AllProper (rs ++ qs)
+append-proper none k = k
+append-proper (more n f h) k = more n f (append-proper h k)
+
+-- its number is one of the table
+proper-number : (number field : ℕ) → Proper (Failed number field) → (number ≤ 20) × IsField field
+unfolding Proper
+proper-number number field s = (leb-true number 20 (both (leb number 20) _ (s .0) .0), s .1)
 
 -- the call and the header
-header-small : (settings : Settings) (l : List ℕ) → AllSmall (headerRows settings l)
+header-proper : (settings : Settings) (l : List ℕ) → AllProper (headerRows settings l)
 unfolding headerRows
-header-small settings l =
+header-proper settings l =
     fixed tt tt (fixed tt tt (fixed tt tt (fixed tt tt (more tt (text-field headerWidths headerTexts l refl) none))))
 
+-- the first row of these that applies
+pub header-first-proper : (settings : Settings) (l : List ℕ) → Proper (firstRow (headerRows settings l))
+header-first-proper settings l = first-proper (header-proper settings l)
+
 -- a mission
-mission-small : (b : List ℕ) → AllSmall (missionRows b)
+mission-proper : (b : List ℕ) → AllProper (missionRows b)
 unfolding missionRows
-mission-small b = fixed tt tt (more tt (text-field missionWidths missionTexts b refl) (fixed tt tt (fixed tt tt none)))
+mission-proper b = fixed tt tt (more tt (text-field missionWidths missionTexts b refl) (fixed tt tt (fixed tt tt none)))
 
 -- so many targets
-targets-small : (mask : ℕ) (area : Area) (n : ℕ) (t : List ℕ) → AllSmall (targetsRows mask area n t)
+targets-proper : (mask : ℕ) (area : Area) (n : ℕ) (t : List ℕ) → AllProper (targetsRows mask area n t)
 unfolding targetsRows targetRows
-targets-small mask area zero t = none
-targets-small mask area (suc n) t =
-    append-small (fixed tt tt (fixed tt tt (fixed tt tt (fixed tt tt none)))) (targets-small mask area n (drop (targetLength mask) t))
+targets-proper mask area zero t = none
+targets-proper mask area (suc n) t =
+    append-proper (fixed tt tt (fixed tt tt (fixed tt tt (fixed tt tt none)))) (targets-proper mask area n (drop (targetLength mask) t))
 
 -- a dwell
-dwell-small : (r : Reading) (b : List ℕ) → AllSmall (dwellRows r b)
+dwell-proper : (r : Reading) (b : List ℕ) → AllProper (dwellRows r b)
 unfolding dwellRows lowestFault
-dwell-small r b =
+dwell-proper r b =
     fixed tt tt
     (more tt (first-field (isFault (r .version) (maskOf b)) 64 2 (lit≤ tt))
     (more tt (either IsField (isOlder r) (new-field (maskOf b)) (lit≤ tt))
-    (fixed tt tt (fixed tt tt (fixed tt tt (targets-small (maskOf b) (areaOf (dwellFields b)) (targetCount b) (targetsOf b)))))))
+    (fixed tt tt (fixed tt tt (fixed tt tt (targets-proper (maskOf b) (areaOf (dwellFields b)) (targetCount b) (targetsOf b)))))))
 
 -- a job definition
-job-small : (r : Reading) (b : List ℕ) → AllSmall (jobRows r b)
+job-proper : (r : Reading) (b : List ℕ) → AllProper (jobRows r b)
 unfolding jobRows
-job-small r b = fixed tt tt (more tt (text-field jobWidths jobTexts b refl) (fixed tt tt none))
+job-proper r b = fixed tt tt (more tt (text-field jobWidths jobTexts b refl) (fixed tt tt none))
 
 -- free text
-text-small : (b : List ℕ) → AllSmall (textRows b)
+text-proper : (b : List ℕ) → AllProper (textRows b)
 unfolding textRows
-text-small b = fixed tt tt (more tt (text-field (freeTextWidths b) freeTextTexts b refl) none)
+text-proper b = fixed tt tt (more tt (text-field (freeTextWidths b) freeTextTexts b refl) none)
 
 -- a body that is kept as bytes
-kept-small : (n : ℕ) (b : List ℕ) → AllSmall (keptRows n b)
+kept-proper : (n : ℕ) (b : List ℕ) → AllProper (keptRows n b)
 unfolding keptRows
-kept-small n b = fixed tt tt none
+kept-proper n b = fixed tt tt none
 
 -- any body
-body-small : (r : Reading) (t : ℕ) (b : List ℕ) → AllSmall (bodyRows r t b)
+body-proper : (r : Reading) (t : ℕ) (b : List ℕ) → AllProper (bodyRows r t b)
 unfolding bodyRows
-body-small r t b =
-    either AllSmall (eqb t 1) (mission-small b)
-    (either AllSmall (eqb t 2) (dwell-small r b)
-    (either AllSmall (eqb t 5) (job-small r b)
-    (either AllSmall (eqb t 6) (text-small b)
-    (either AllSmall (eqb t 10) (kept-small 14 b)
-    (either AllSmall (eqb t 13) (kept-small 23 b) none)))))
+body-proper r t b =
+    either AllProper (eqb t 1) (mission-proper b)
+    (either AllProper (eqb t 2) (dwell-proper r b)
+    (either AllProper (eqb t 5) (job-proper r b)
+    (either AllProper (eqb t 6) (text-proper b)
+    (either AllProper (eqb t 10) (kept-proper 14 b)
+    (either AllProper (eqb t 13) (kept-proper 23 b) none)))))
 
 -- any segment
-segment-small : (r : Reading) (l : List ℕ) → AllSmall (segmentRows r l)
+segment-proper : (r : Reading) (l : List ℕ) → AllProper (segmentRows r l)
 unfolding segmentRows
-segment-small r l = fixed tt tt (fixed tt tt (fixed tt tt (fixed tt tt (body-small r (typeAt l) (bodyAt l)))))
+segment-proper r l = fixed tt tt (fixed tt tt (fixed tt tt (fixed tt tt (body-proper r (typeAt l) (bodyAt l)))))
 
 -- the writer
-writer-small : (x : List ℕ) (lent : ℕ) → AllSmall (writerRows x lent)
+writer-proper : (x : List ℕ) (lent : ℕ) → AllProper (writerRows x lent)
 unfolding writerRows sheetRows
-writer-small x lent = fixed tt tt (fixed tt tt (fixed tt tt (fixed tt tt none)))
+writer-proper x lent = fixed tt tt (fixed tt tt (fixed tt tt (fixed tt tt none)))
 
 -- ---- the segments
 
--- the walk finds at most k of them, and the row that ends it is small
-parse-small : (r : Reading) (k : ℕ) (l : List ℕ) → (length (parse r k l .segments) ≤ k) × Small (parse r k l .ending)
-unfolding parse Small
-parse-small r zero l = (lit≤ tt, tt)
-parse-small r (suc k) [] = (omega arith, tt)
-parse-small r (suc k) (x ∷ xs) =
-    go (firstRow (segmentRows r (x ∷ xs))) (first-small (segment-small r (x ∷ xs))) (parse-small r k (drop (sizeAt (x ∷ xs)) (x ∷ xs)))
+-- the walk finds at most k of them, and the row that ends it is proper
+pub parse-proper : (r : Reading) (k : ℕ) (l : List ℕ) → (length (parse r k l .segments) ≤ k) × Proper (parse r k l .ending)
+unfolding parse Proper
+parse-proper r zero l = (lit≤ tt, tt)
+parse-proper r (suc k) [] = (omega arith, tt)
+parse-proper r (suc k) (x ∷ xs) =
+    go (firstRow (segmentRows r (x ∷ xs))) (first-proper (segment-proper r (x ∷ xs))) (parse-proper r k (drop (sizeAt (x ∷ xs)) (x ∷ xs)))
   where
     rest : Parsed
     rest = parse r k (drop (sizeAt (x ∷ xs)) (x ∷ xs))
@@ -180,8 +198,8 @@ parse-small r (suc k) (x ∷ xs) =
     first : Segment
     first = record { type = typeAt (x ∷ xs); body = bodyAt (x ∷ xs) }
 
-    go : (c : Check) → Small c → (length (rest .segments) ≤ k) × Small (rest .ending)
-        → (length (onward c first rest .segments) ≤ suc k) × Small (onward c first rest .ending)
+    go : (c : Check) → Proper c → (length (rest .segments) ≤ k) × Proper (rest .ending)
+        → (length (onward c first rest .segments) ≤ suc k) × Proper (onward c first rest .ending)
     go Passed s i = (omega (arith, i .0), i .1)
     go (Failed number field) s i = (omega arith, s)
 
@@ -276,27 +294,27 @@ accepted-within settings l n short h =
 
 -- a reading, by the first row of the header and by how the walk over the segments ends
 reading-within : (settings : Settings) (l : List ℕ) (lent : ℕ) → AllWithin (numbersOf (readingAnswer settings l lent))
-unfolding readingAnswer parsed Small
-reading-within settings l lent = go (firstRow (headerRows settings l)) refl (first-small (header-small settings l))
+unfolding readingAnswer parsed Proper
+reading-within settings l lent = go (firstRow (headerRows settings l)) refl (header-first-proper settings l)
   where
     m : ℕ
     m = length (sheet settings l)
 
-    walked : (length (parsed settings l .segments) ≤ length (drop 32 l)) × Small (parsed settings l .ending)
-    walked = parse-small (readingOf settings l) (length (drop 32 l)) (drop 32 l)
+    walked : (length (parsed settings l .segments) ≤ length (drop 32 l)) × Proper (parsed settings l .ending)
+    walked = parse-proper (readingOf settings l) (length (drop 32 l)) (drop 32 l)
 
-    ended : length l ≤ 65536 → (c : Check) → Small c → AllWithin (numbersOf (segmentsAnswer (record { segments = parsed settings l .segments; ending = c }) m lent))
+    ended : length l ≤ 65536 → (c : Check) → Proper c → AllWithin (numbersOf (segmentsAnswer (record { segments = parsed settings l .segments; ending = c }) m lent))
     ended short Passed s =
         either (λ (a : Answer). AllWithin (numbersOf a)) (leb m lent)
         (accepted-within settings l m short (sheet-longest settings l short))
         (refused-within 16 0 0 (lit≤ tt, lit≤ tt) (lit≤ tt))
     ended short (Failed number field) s =
-        refused-within number (length (parsed settings l .segments) + 1) field s (omega (arith, walked .0, length-drop 32 l))
+        refused-within number (length (parsed settings l .segments) + 1) field (proper-number number field s) (omega (arith, walked .0, length-drop 32 l))
 
-    go : (c : Check) → firstRow (headerRows settings l) ≡ c → Small c
+    go : (c : Check) → firstRow (headerRows settings l) ≡ c → Proper c
         → AllWithin (numbersOf (elim c [ Passed ↦ segmentsAnswer (parsed settings l) m lent | Failed number field ↦ Refused number 0 field ]))
     go Passed e s = ended (header-sized settings l e .short) (parsed settings l .ending) (walked .1)
-    go (Failed number field) e s = refused-within number 0 field s (lit≤ tt)
+    go (Failed number field) e s = refused-within number 0 field (proper-number number field s) (lit≤ tt)
 
 -- where no row applies to a sheet, the packet that it spells is not too long (row 19)
 spelt-short : (x : List ℕ) (lent : ℕ) → firstRow (writerRows x lent) ≡ Passed → length (spell x) ≤ 65536
@@ -309,14 +327,14 @@ spelt-short x lent e =
 
 -- the writer, by the first row that applies
 writing-within : (x : List ℕ) (lent : ℕ) → AllWithin (numbersOf (writingAnswer x lent))
-unfolding writingAnswer Small
-writing-within x lent = go (firstRow (writerRows x lent)) refl (first-small (writer-small x lent))
+unfolding writingAnswer Proper
+writing-within x lent = go (firstRow (writerRows x lent)) refl (first-proper (writer-proper x lent))
   where
-    go : (c : Check) → firstRow (writerRows x lent) ≡ c → Small c → AllWithin (numbersOf (writerAnswer x c))
+    go : (c : Check) → firstRow (writerRows x lent) ≡ c → Proper c → AllWithin (numbersOf (writerAnswer x c))
     go Passed e s =
         let short = spelt-short x lent e in
         accepted-within (asEdition 3) (spell x) (length (spell x)) short (omega arith)
-    go (Failed number field) e s = refused-within number 0 0 (s .0, lit≤ tt) (lit≤ tt)
+    go (Failed number field) e s = refused-within number 0 0 (proper-number number field s .0, lit≤ tt) (lit≤ tt)
 
 -- ---- the outcomes
 

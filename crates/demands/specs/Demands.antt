@@ -22,6 +22,7 @@ use Rattle.format.specs.declared.New.{New}
 use Rattle.format.specs.declared.New.the-variants.{Nothing, Found}
 use Rattle.format.specs.New.{firstNew}
 use Rattle.format.specs.Reader.{dwellsIn, targetsIn, readingOf, parsed, setOut, sheet, read}
+use Rattle.format.specs.Bound.{formula, sheetBound, EnoughFor}
 use Rattle.format.specs.Writer.{listed, isAccepted, writerRows, spell, writerAnswer, write}
 use Rattle.demands.specs.First.{FirstRow, NoRow}
 use Rattle.demands.specs.Filled.{filledIn}
@@ -95,6 +96,13 @@ pub record DifferentPairs : Type 0 where
   pub equal-are-same : (p : Pair) → isSamePair p p ≡ true
   pub all-of-them : (p : Pair) (ps : List Pair) → isAmong isSamePair p (withoutRepeats isSamePair ps) ≡ isAmong isSamePair p ps
   pub none-twice : (ps : List Pair) → hasRepeats isSamePair (withoutRepeats isSamePair ps) ≡ false
+
+-- ---- Document 02, A2: "For every accepted packet of n bytes, the sheet length is at most 33 + 45 × (n − 32) / 4, rounded down." So
+-- whoever sets so much aside before reading is never refused for want of it.
+pub record SheetBound : Type 0 where
+  pub at-most : (settings : Settings) (l lent : List ℕ) (s d t n : ℕ) → read settings l lent .answer ≡ Accepted s d t n
+      → n ≤ formula (length l)
+  pub enough : (n : ℕ) → EnoughFor n (sheetBound n)
 
 -- ---- Demand 3
 

@@ -13,5 +13,6 @@ pub mod Bodies
 pub mod Dwells
 pub mod Acceptance
 pub mod Longest
+pub mod Samples
 pub mod Sameness
 pub mod Trials

@@ -19,7 +19,8 @@ use Rattle.format.specs.declared.Check.the-variants.{Passed, Failed}
 use Rattle.format.specs.Packet.{Segment, typeAt, sizeAt, bodyAt}
 use Rattle.format.specs.Dwell.{maskOf, targetCount, targetLength}
 use Rattle.format.specs.Sheet.{bodyLength, headerRecord, pieceCount, segmentRecords, packetRecords, recordBytes}
-use Rattle.format.specs.Lengths.{recordLength, longestSheet}
+use Rattle.format.specs.Lengths.{recordLength}
+use Rattle.format.specs.Bound.{formula, longestSheet}
 use Rattle.format.specs.Rows.{firstRow, dwellRows, bodyRows, segmentRows}
 use Rattle.format.specs.Reader.{Parsed, onward, parse, readingOf, parsed, sheet}
 use Rattle.format.proofs.Types.{by-number}
@@ -113,6 +114,10 @@ unfolding sheet headerRecord bodyLength parsed
 sheet-short settings l =
     let r = readingOf settings l in
     omega (arith, length-record 1 l (packetRecords r (parsed settings l .segments)), parse-short r (length (drop 32 l)) (drop 32 l), length-drop 32 l)
+
+-- so it is within the bound of A2: the product is divided as a whole
+pub sheet-bounded : (settings : Settings) (l : List ℕ) → length (sheet settings l) ≤ formula (length l)
+sheet-bounded settings l = omega (arith, sheet-short settings l)
 
 -- that of a packet that is not too long (row 2)
 pub sheet-longest : (settings : Settings) (l : List ℕ) → length l ≤ 65536 → length (sheet settings l) ≤ longestSheet

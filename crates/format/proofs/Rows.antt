@@ -26,6 +26,15 @@ first-passes r rs e = go (r .applies) refl e
     go true h e = passed-not-failed (r .number) (r .field) (sym e)
     go false h e = (h, e)
 
+-- and the other way: a row that does not apply leaves it to the others, and no row applies where there is none
+pub row-passes : (r : Row) (rs : List Row) → r .applies ≡ false → firstRow rs ≡ Passed → firstRow (r ∷ rs) ≡ Passed
+unfolding firstRow
+row-passes r rs h e = rw h e
+
+pub no-row : firstRow [] ≡ Passed
+unfolding firstRow
+no-row = refl
+
 -- the rows of two lists, one after the other
 abbrev pub orElse : Check → Check → Check
 orElse Passed c = c

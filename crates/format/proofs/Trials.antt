@@ -19,18 +19,20 @@ use Rattle.format.specs.Sheet.{bodyLength, recordOf, headerRecord, dwell
 use Rattle.format.specs.Answer.{numbersOf, leftBy}
 use Rattle.format.specs.Rows.{firstRow, headerRows, missionRows, targetRows, targetsRows, dwellRows, jobRows, textRows, keptRows, bodyRows, segmentRows}
 use Rattle.format.specs.Reader.{parse, pairsIn, dwellsIn, targetsIn, parsed, sheet, readingAnswer, read}
+use Rattle.format.specs.Bound.{sheetBound}
 use Rattle.format.specs.Writer.{list, noHeader, isHeaded, calledFor, isComplete, typeOf, given, givenBehind, regroup, segmentsBytes, spellRecords, spell, isSame, readsBack, sheetRows, writerRows, writingAnswer, write}
 use Rattle.format.specs.Samples.{packet, printed, northmost}
-use Rattle.format.specs.Trials.{packets, marked, printedResults, editions, writing, splitDwells}
+use Rattle.format.specs.Trials.{packets, marked, printedResults, editions, writing, splitDwells, bounds}
 
-pub all-computed : Holds packets × Holds printedResults × Holds editions × Holds writing × Holds splitDwells
-unfolding packets printedResults editions writing splitDwells be bytes twos signed signedBytes pad over total field value signedValue replaced isTextByte isText textFault isAmong withoutRepeats announced announcedLength fullFields announcedFields dwellSize isRequired isReserved isIn anySet isGap isGapIn isDoubled isFault firstFrom lowestFault newInMask isPlaced isLatitude reduced longitudeSum nearest rounded latitudeMicro fullCircle longitudeMicro isP1 version typeAt sizeAt bodyAt segmentBytes isKnown maskOf dwellFields targetCount targetsOf targetFields isSamePair areaOf latitude longitude isOlder shown mark isNewMode bodyLength recordOf headerRecord dwellRecord targetRecord targetRecords pieceRecord pieceRecords pieceCount dwellRecords textRecords opaqueRecords jobRecords segmentRecords packetRecords recordBytes numbersOf leftBy firstRow headerRows missionRows targetRows targetsRows dwellRows jobRows textRows keptRows bodyRows segmentRows parse pairsIn dwellsIn targetsIn parsed sheet readingAnswer read list noHeader isHeaded calledFor isComplete typeOf given givenBehind regroup segmentsBytes spellRecords spell isSame readsBack sheetRows writerRows writingAnswer write packet printed northmost
+pub all-computed : Holds packets × Holds printedResults × Holds editions × Holds writing × Holds splitDwells × Holds bounds
+unfolding packets printedResults editions writing splitDwells bounds sheetBound be bytes twos signed signedBytes pad over total field value signedValue replaced isTextByte isText textFault isAmong withoutRepeats announced announcedLength fullFields announcedFields dwellSize isRequired isReserved isIn anySet isGap isGapIn isDoubled isFault firstFrom lowestFault newInMask isPlaced isLatitude reduced longitudeSum nearest rounded latitudeMicro fullCircle longitudeMicro isP1 version typeAt sizeAt bodyAt segmentBytes isKnown maskOf dwellFields targetCount targetsOf targetFields isSamePair areaOf latitude longitude isOlder shown mark isNewMode bodyLength recordOf headerRecord dwellRecord targetRecord targetRecords pieceRecord pieceRecords pieceCount dwellRecords textRecords opaqueRecords jobRecords segmentRecords packetRecords recordBytes numbersOf leftBy firstRow headerRows missionRows targetRows targetsRows dwellRows jobRows textRows keptRows bodyRows segmentRows parse pairsIn dwellsIn targetsIn parsed sheet readingAnswer read list noHeader isHeaded calledFor isComplete typeOf given givenBehind regroup segmentsBytes spellRecords spell isSame readsBack sheetRows writerRows writingAnswer write packet printed northmost
 all-computed = (
   (refl, (refl, (refl, (refl, (refl, tt))))),
   (refl, (refl, (refl, (refl, (refl, (refl, (refl, (refl, (refl, (refl, tt)))))))))),
   (refl, (refl, (refl, (refl, (refl, (refl, (refl, (refl, (refl, (refl, (refl, (refl, (refl, (refl, (refl, (refl, (refl, (refl, (refl, (refl, (refl, (refl, (refl, tt))))))))))))))))))))))),
   (refl, (refl, (refl, (refl, (refl, (refl, (refl, (refl, (refl, (refl, tt)))))))))),
   (refl, (refl, (refl, (refl, (refl, (refl, (refl, (refl, (refl, tt))))))))),
+  (refl, (refl, (refl, (refl, (refl, (refl, (refl, (refl, tt)))))))),
 )
 
 both : (ts us : List (Type 0)) → Holds ts → Holds us → Holds (ts ++ us)

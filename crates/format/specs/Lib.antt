@@ -7,6 +7,7 @@ pub mod Answer
 pub mod Rows
 pub mod New
 pub mod Reader
+pub mod Bound
 pub mod Writer
 pub mod Samples
 pub mod Trials

@@ -1,4 +1,4 @@
--- Packets for the trials, built from what tells them apart.
+-- Packets for the trials, built from what tells them apart. The packet of request A2 is built of the same parts (crate gmti_longest).
 -- Assumes nothing.
 use Prim.Native.Nat.{ℕ, _+_}
 use mathlib.Core.List.{List, [], _∷_, _++_}
@@ -59,15 +59,19 @@ empty mask more = dwell mask (d2to9 0 ++ d24to27 0 0x1234 ++ zeros more)
 abbrev pub numbered : ℕ → ℕ → List ℕ
 numbered d2 d3 = dwell 0xFF00_03C0_0000_0000 (bytes 2 d2 ++ bytes 2 d3 ++ zeros 19 ++ d24to27 0 0)
 
+-- D2 to D11, D24 to D27, D32.4 and D32.5
+abbrev pub deltaMask : ℕ
+deltaMask = 0xFFC0_03C0_6000_0000
+
 -- the 92-byte packet of document 01: "one dwell with mask FF C0 03 C0 60 00 00 00, D24 and D25 0, D10 and D11 65536, one target −128, −64"
 unfoldable pub printed : List ℕ
 printed =
-    version3 (dwell 0xFFC0_03C0_6000_0000
+    version3 (dwell deltaMask
     (d2to9 1 ++ bytes 4 65536 ++ bytes 4 65536 ++ d24to27 0 0 ++ (0xFF ∷ 0x80 ∷ 0xFF ∷ 0xC0 ∷ [])))
 
 -- "D24 0x7FFFFFFF, D10 1", and a target with this D32.4
 unfoldable pub northmost : ℕ → List ℕ
-northmost delta = version3 (dwell 0xFFC0_03C0_6000_0000 (d2to9 1 ++ bytes 4 1 ++ bytes 4 0 ++ d24to27 0x7FFFFFFF 0 ++ bytes 2 delta ++ zeros 2))
+northmost delta = version3 (dwell deltaMask (d2to9 1 ++ bytes 4 1 ++ bytes 4 0 ++ d24to27 0x7FFFFFFF 0 ++ bytes 2 delta ++ zeros 2))
 
 -- a job definition with this J14, and J26 0x56
 abbrev pub job : ℕ → List ℕ

@@ -1,6 +1,6 @@
 -- Trials of the meanings. `marked` are those that document 01 marks P, in one list; `printedResults` its two packets with a printed
 -- result; `editions` and `writing` tell the readings and the writer's rows from likely mistakes; `splitDwells` tells the dwells that are
--- counted from those that are not (request A1).
+-- counted from those that are not (request A1); `bounds` has the bound for some lengths (request A2).
 -- Assumes nothing.
 use Prim.Native.Nat.{ℕ}
 use mathlib.Core.Path.{_≡_}
@@ -14,6 +14,7 @@ use Rattle.format.specs.declared.Answer.{Answer}
 use Rattle.format.specs.declared.Answer.the-variants.{Accepted, Refused}
 use Rattle.format.specs.Answer.{outcome}
 use Rattle.format.specs.Reader.{readingAnswer, sheet, read}
+use Rattle.format.specs.Bound.{sheetBound}
 use Rattle.format.specs.Writer.{write}
 use Rattle.format.specs.Samples.{zeros, version1, version3, segment, empty, numbered, printed, northmost, job, mission, freeText}
 
@@ -129,4 +130,17 @@ splitDwells =
     ∷ (read3 (version3 (numbered 1 2 ++ segment 3 (drop 5 (numbered 1 3)))) ≡ Accepted 2 1 0 195)
     -- the writer's answer has the same counts
     ∷ (write (sheet (asEdition 3) (version3 (numbered 1 2 ++ numbered 1 2))) (zeros 128) ≡ outcome (Accepted 2 1 0 128) (version3 (numbered 1 2 ++ numbered 1 2)))
+    ∷ []
+
+-- "33 + 45 × (n − 32) / 4, rounded down" (request A2): lengths that no packet has, the shortest and the longest, and some between
+unfoldable pub bounds : List (Type 0)
+bounds =
+    (sheetBound 31 ≡ 0)
+    ∷ (sheetBound 32 ≡ 33)
+    ∷ (sheetBound 35 ≡ 66)
+    ∷ (sheetBound 36 ≡ 78)
+    ∷ (sheetBound 92 ≡ 708)
+    ∷ (sheetBound 65535 ≡ 736941)
+    ∷ (sheetBound 65536 ≡ 736953)
+    ∷ (sheetBound 65537 ≡ 0)
     ∷ []

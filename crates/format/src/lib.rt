@@ -46,9 +46,9 @@ pub enum New {
 // The longest packet that row 2 lets pass.
 pub const LONGEST_PACKET: usize = 65536;
 
-// The longest sheet that a packet has: nothing grows more than a target of 4 bytes, which becomes a whole record.
+// No sheet is longer than the bound of the longest packet. Nothing grows more than a target of 4 bytes, which becomes a whole record.
 pub const LONGEST_SHEET: usize = HeaderRecord::WHOLE
-    + (LONGEST_PACKET - HeaderRecord::LEN) * TargetRecord::WHOLE / 4;
+    + TargetRecord::WHOLE * (LONGEST_PACKET - HeaderRecord::LEN) / 4;
 
 // The records of a sheet: the kind of each, the length that the kind fixes for its body, and that of the whole record. Places are counted from
 // the body's first byte.

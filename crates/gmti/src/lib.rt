@@ -1,17 +1,18 @@
-// The library for C and Rust: both readings and the writer, exported under names of C. A slice is a pointer and a length there, and an
-// answer is room for seven numbers of 32 bits. Nothing is asked of the bytes that are handed in; that each pointer has as many as its length
-// says, and that lent memory lies apart from the rest, is the caller's care.
+// The library for C and Rust: both readings, the writer, and how long a sheet can get, exported under names of C. A slice is a pointer and a
+// length there, and an answer is room for seven numbers of 32 bits. Nothing is asked of the bytes that are handed in; that each pointer has as
+// many as its length says, and that lent memory lies apart from the rest, is the caller's care.
 ghost use mathlib.Core.Path.{_≡_};
 ghost use Prim.Native.Nat.{ℕ, _^_, _<_};
 ghost use lib.ListN.{getD};
 ghost use Rattle.format.specs.Edition.{asEdition};
 ghost use Rattle.format.specs.Answer.{numbersOf};
 ghost use Rattle.format.specs.Reader.{read as readOutcome};
+ghost use Rattle.format.specs.Bound.{sheetBound, EnoughFor};
 ghost use Rattle.format.specs.Writer.{write as writeOutcome};
 use format::Answer;
 
 // The seven numbers of an answer, in their order: number, segment, field, segments, dwells, targets, length. A caller in C takes 32 bits of each,
-// so they must fit; those of both calls below do, whatever they are given (crate demands, proofs/Numbers.antt).
+// so they must fit; those of `gmti_read` and `gmti_write` do, whatever they are given (crate demands, proofs/Numbers.antt).
 fn put_numbers(a: Answer, o: &mut [u32; 7])
     requires { ⌜ ((i : ℕ) → getD (numbersOf a) i 0 < 2 ^ 32) ⌝ }
     ensures { λ _. ⌜ now (o .exit) ≡ numbersOf a ⌝ }
@@ -52,4 +53,13 @@ pub extern "C" fn gmti_write(sheet: &[u8], packet: &mut [u8], answer: &mut [u32;
     ensures { λ _. ⌜ now (packet .exit) ≡ writeOutcome (now (sheet .entry)) (now (packet .entry)) .left ⌝ }
 {
     put_numbers(writer::write(sheet, packet), answer);
+}
+
+// How many bytes are enough for the sheet of a packet of n bytes; 0 for an n that no packet has. For C:
+// size_t gmti_sheet_bound(size_t packet_length)
+#[no_mangle]
+pub extern "C" fn gmti_sheet_bound(n: usize) -> usize
+    ensures { λ r. ⌜ (r ≡ sheetBound n) × EnoughFor n r ⌝ }
+{
+    bound::sheet_bound(n)
 }

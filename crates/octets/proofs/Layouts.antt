@@ -5,7 +5,7 @@ use mathlib.Core.List.{List, [], _∷_, _++_, append-nil}
 use Prim.Native.Nat.{ℕ, zero, suc, _+_, _-_, _≤_}
 use native.Mathlib.Nat.{le-refl, not-suc-le-zero, zero-add}
 use native.Mathlib.Omega.{arith}
-use lib.ListN.{length, take, drop, length-append, length-drop}
+use lib.ListN.{length, replicate, take, drop, length-append, length-drop}
 use lib.Seq.{sets, sets-eq, take-length, length-take-le, take-at}
 use Rattle.octets.specs.Layout.{pad, over, width, offset, field, replaced, zeroed, copied}
 
@@ -26,6 +26,18 @@ pad-take (suc w) (x ∷ b) h = ap (λ (r : List ℕ). x ∷ r) (pad-take w b (om
 -- bytes of the width itself stay as they are
 pub pad-same : (b : List ℕ) → pad (length b) b ≡ b
 pad-same b = pad-take (length b) b (le-refl (length b)) ∙ take-length b
+
+-- zeros are what is filled with: as many by themselves, and zeros cut or filled up are as none
+pub pad-none : (m : ℕ) → pad m [] ≡ replicate m 0
+unfolding pad
+pad-none zero = refl
+pad-none (suc m) = ap (λ (r : List ℕ). 0 ∷ r) (pad-none m)
+
+pub pad-zeros : (w m : ℕ) → pad w (replicate m 0) ≡ pad w []
+unfolding pad
+pad-zeros zero m = refl
+pad-zeros (suc w) zero = refl
+pad-zeros (suc w) (suc m) = ap (λ (r : List ℕ). 0 ∷ r) (pad-zeros w m)
 
 -- where bytes are filled up, they stay in front
 pub pad-append : (w v : ℕ) (b c : List ℕ) → w ≡ length b + v → pad w (b ++ c) ≡ b ++ pad v c

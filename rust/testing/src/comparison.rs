@@ -1,5 +1,5 @@
 //! Holds the verified library against the other implementations: one call at a time, and the demands over several calls.
-use crate::generator::records::{longest_sheet, split};
+use crate::generator::records::split;
 use crate::generator::tables::{D27_PLACE, J26_PLACE};
 use crate::generator::Random;
 use crate::tally::Tally;
@@ -211,11 +211,18 @@ impl Comparison {
         lengths
     }
 
-    /// A packet under one reading, given a long sheet first and then sheets of other lengths. The answer is that for the long one.
+    /// A packet under one reading, given a sheet as long as the bound first and then sheets of other lengths. The answer is that for the
+    /// bound, and it is not row 16.
     pub fn reading(&mut self, edition: u32, packet: &[u8]) -> Compared<Answer> {
-        let ample = longest_sheet(packet.len()) + self.random.below(100);
-        let answer = self.read(edition, packet, ample)?;
-        let lengths = if answer.is_accepted() { self.lengths(answer.length) } else { vec![0, self.random.below(200)] };
+        let bound = independent::sheet_bound(packet.len());
+        let answer = self.read(edition, packet, bound)?;
+        if answer.number == 16 {
+            return self.differ("the bound is not enough", answer, Answer::default(), read_call(edition, packet));
+        }
+        let mut lengths = if answer.is_accepted() { self.lengths(answer.length) } else { vec![0, self.random.below(200)] };
+        // More than enough, also for a packet that is too long, for which the bound is 0.
+        let ample = if packet.len() > gmti::LONGEST_PACKET { gmti::LONGEST_SHEET } else { bound };
+        lengths.push(ample + self.random.below(100));
         for lent in lengths {
             let again = self.read(edition, packet, lent)?;
             let due = if answer.is_accepted() && lent < answer.length as usize { Answer::refused(16, 0, 0) } else { answer };
@@ -230,7 +237,7 @@ impl Comparison {
     pub fn packet(&mut self, packet: &[u8]) -> Compared<(Answer, Answer)> {
         let any = self.random.number() as u32;
         let edition = self.random.pick([0, 2, 4, 13, 31, 257, 259, u32::MAX, 1 << 31 | 3, any]);
-        self.read(edition, packet, longest_sheet(packet.len()))?;
+        self.read(edition, packet, independent::sheet_bound(packet.len()))?;
         let older = self.reading(1, packet)?;
         let newer = self.reading(3, packet)?;
         if newer.is_accepted() {
@@ -331,7 +338,7 @@ impl Comparison {
             return Ok(());
         }
         let lent = match &call {
-            Call::Read { packet, .. } => longest_sheet(packet.len()),
+            Call::Read { packet, .. } => independent::sheet_bound(packet.len()),
             Call::Write { sheet } => 2 * sheet.len(),
         };
         self.differ_where("the answer is not the one that the case is aimed at", answer, due, call, lent)

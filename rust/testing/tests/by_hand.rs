@@ -3,7 +3,6 @@
 use gmti::Answer;
 use testing::by_hand;
 use testing::generator::faults::Fault;
-use testing::generator::records::longest_sheet;
 use testing::generator::{aimed, damage, valid, Random};
 
 /// The verified reader's answer for this packet and this lent length; the other gives it too, and leaves the same sheet.
@@ -18,7 +17,7 @@ fn compare(edition: u32, packet: &[u8], lent: usize) -> Answer {
 
 fn compare_both(packet: &[u8]) -> [Answer; 2] {
     [1, 3].map(|edition| {
-        let answer = compare(edition, packet, longest_sheet(packet.len()));
+        let answer = compare(edition, packet, gmti::sheet_bound(packet.len()));
         let length = answer.length as usize;
         compare(edition, packet, length);
         compare(edition, packet, length.saturating_sub(1));

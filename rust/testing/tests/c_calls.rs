@@ -1,4 +1,5 @@
-//! samples/each_packet.c, compiled against include/gmti.h and the library, prints what the independent implementation answers.
+//! samples/each_packet.c, compiled against include/gmti.h and the library, prints what the independent implementation answers. The
+//! header's constants and its bound are those of the Rust package.
 use std::fs::{self, File};
 use std::path::{Path, PathBuf};
 use std::process::Command;
@@ -9,20 +10,23 @@ fn recording() -> Vec<u8> {
     fs::read(root().join("samples/recording.gmti")).unwrap()
 }
 
-/// The compiled program. The compiler is cc, or what the variable CC names.
+/// The program of this source, compiled under a name. The compiler is cc, or what the variable CC names.
+fn compiled(source: &Path, name: &str) -> PathBuf {
+    let out = Path::new(env!("CARGO_TARGET_TMPDIR")).join(name);
+    let compiler = std::env::var_os("CC").unwrap_or("cc".into());
+    let mut command = Command::new(compiler);
+    command.args(["-std=c99", "-O2", "-Wall", "-Wextra", "-pedantic", "-Werror", "-I"]).arg(root().join("include"));
+    command.arg("-o").arg(&out).arg(source);
+    command.arg(Path::new(env!("GMTI_LIBRARY_FOLDER")).join("libgmti.a"));
+    let output = command.output().expect("the C compiler did not start");
+    assert!(output.status.success(), "{}", String::from_utf8_lossy(&output.stderr));
+    out
+}
+
+/// samples/each_packet.c, compiled.
 fn program() -> &'static Path {
     static PROGRAM: OnceLock<PathBuf> = OnceLock::new();
-    PROGRAM.get_or_init(|| {
-        let out = Path::new(env!("CARGO_TARGET_TMPDIR")).join("each_packet");
-        let compiler = std::env::var_os("CC").unwrap_or("cc".into());
-        let mut command = Command::new(compiler);
-        command.args(["-std=c99", "-O2", "-Wall", "-Wextra", "-pedantic", "-Werror", "-I"]).arg(root().join("include"));
-        command.arg("-o").arg(&out).arg(root().join("samples/each_packet.c"));
-        command.arg(Path::new(env!("GMTI_LIBRARY_FOLDER")).join("libgmti.a"));
-        let output = command.output().expect("the C compiler did not start");
-        assert!(output.status.success(), "{}", String::from_utf8_lossy(&output.stderr));
-        out
-    })
+    PROGRAM.get_or_init(|| compiled(&root().join("samples/each_packet.c"), "each_packet"))
 }
 
 /// What the program prints for these bytes, what it reports on standard error, and whether it ends with status 0.
@@ -122,10 +126,34 @@ fn more_than_the_program_first_makes_room_for() {
     assert_eq!(assert_prints("long", &bytes).lines().count(), 12_000);
 }
 
+/// Prints the header's constants, of which the second is usable where C wants a constant, and the bound for each argument.
+const CONSTANTS: &str = r#"
+#include "gmti.h"
+#include <stdio.h>
+#include <stdlib.h>
+
+static uint8_t sheet[GMTI_LONGEST_SHEET];
+
+int main(int count, char **words) {
+    printf("%zu %zu\n", (size_t)GMTI_LONGEST_PACKET, sizeof sheet);
+    for (int i = 1; i < count; i++)
+        printf("%zu\n", gmti_sheet_bound((size_t)strtoull(words[i], NULL, 10)));
+    return 0;
+}
+"#;
+
 #[test]
-fn the_header_has_the_constants_of_the_package() {
-    let header = fs::read_to_string(root().join("include/gmti.h")).unwrap();
-    for (name, value) in [("PACKET", gmti::LONGEST_PACKET), ("SHEET", gmti::LONGEST_SHEET)] {
-        assert!(header.contains(&format!("#define GMTI_LONGEST_{name} {value}\n")), "{name}");
-    }
+fn the_header_has_the_constants_and_the_bound_of_the_package() {
+    let lengths = [0, 31, 32, 33, 35, 36, 92, 65_535, 65_536, 65_537, usize::MAX];
+    let source = Path::new(env!("CARGO_TARGET_TMPDIR")).join("constants.c");
+    fs::write(&source, CONSTANTS).unwrap();
+    let program = compiled(&source, "constants");
+    let output = Command::new(program).args(lengths.map(|length| length.to_string())).output().unwrap();
+    let printed = String::from_utf8(output.stdout).unwrap();
+    let mut lines = printed.lines();
+    assert_eq!(lines.next(), Some(format!("{} {}", gmti::LONGEST_PACKET, gmti::LONGEST_SHEET).as_str()));
+    let bounds: Vec<usize> = lines.map(|line| line.parse().unwrap()).collect();
+    assert_eq!(bounds, lengths.map(gmti::sheet_bound));
+    assert_eq!(bounds, lengths.map(independent::sheet_bound));
+    assert_eq!(bounds, [0, 0, 33, 44, 66, 78, 708, 736_941, 736_953, 0, 0]);
 }

@@ -2,11 +2,10 @@
 mod common;
 
 use common::held;
-use gmti::{Answer, LONGEST_PACKET, LONGEST_SHEET};
+use gmti::{sheet_bound, Answer, LONGEST_PACKET, LONGEST_SHEET};
 use testing::comparison::Comparison;
-use testing::generator::records::longest_sheet;
 use testing::generator::spelling::{patch_size, Packet, Segment};
-use testing::generator::tables::{mask_of, ALWAYS, DELTAS, OPAQUE_TYPES, OWN_TYPES};
+use testing::generator::tables::{mask_of, ALWAYS, DELTAS, MOST_TARGETS, OPAQUE_TYPES, OWN_TYPES};
 use testing::generator::valid::{self, Style};
 use testing::generator::Random;
 use testing::{by_hand, cases, independent};
@@ -35,7 +34,7 @@ fn editions() {
         let any = random.number() as u32;
         comparison.begin("editions", index);
         for edition in [0, 2, 4, 5, 31, 33, 0x101, 0x103, 0x0100_0003, 0x8000_0001, u32::MAX, any] {
-            let answer = held(comparison.read(edition, &packet, longest_sheet(packet.len())));
+            let answer = held(comparison.read(edition, &packet, sheet_bound(packet.len())));
             assert_eq!(answer == Answer::refused(1, 0, 0), edition != 1 && edition != 3);
         }
     }
@@ -66,20 +65,20 @@ fn longest_packets() {
     }
 }
 
-/// The packet with the longest sheet: one dwell of targets of 4 bytes fills 65,536 bytes. No sheet is longer than the bound.
+/// One dwell of targets of 4 bytes fills 65,536 bytes, with any values: its sheet is as long as that of the targets that are all zero.
 #[test]
 fn longest_sheet_of_all() {
     let mut comparison = Comparison::new(603);
     let random = &mut Random::new(603);
-    let dwell = valid::dwell_with(random, mask_of(&ALWAYS) | mask_of(&DELTAS), 16_362);
+    let dwell = valid::dwell_with(random, mask_of(&ALWAYS) | mask_of(&DELTAS), MOST_TARGETS as usize);
     let packet = Packet::new(valid::header(random, 3), vec![dwell.segment()]).bytes();
-    assert_eq!(packet.len(), LONGEST_PACKET);
-    assert_eq!(longest_sheet(packet.len()), LONGEST_SHEET);
+    let zeros = valid::longest(MOST_TARGETS).bytes();
+    assert_eq!((packet.len(), zeros.len()), (LONGEST_PACKET, LONGEST_PACKET));
     comparison.begin("longest sheet", 0);
     let (older, newer) = held(comparison.packet(&packet));
     assert_eq!(older, newer);
-    assert_eq!(newer, Answer::accepted(1, 1, 16_362, 33 + 88 + 45 * 16_362));
-    assert!(newer.length as usize <= LONGEST_SHEET);
+    assert_eq!((newer.segments, newer.dwells, newer.targets), (1, 1, MOST_TARGETS));
+    assert_eq!(held(comparison.read(3, &zeros, LONGEST_SHEET)), newer);
     assert_eq!(held(comparison.read(3, &packet, LONGEST_SHEET)), newer);
 }
 
@@ -87,13 +86,10 @@ fn longest_sheet_of_all() {
 #[test]
 fn buffer_of_the_program() {
     let mut comparison = Comparison::new(609);
-    let random = &mut Random::new(609);
     comparison.begin("buffer of the program", 0);
-    for (count, number) in [(1453, 0), (1454, 16)] {
-        let dwell = valid::dwell_with(random, mask_of(&ALWAYS) | mask_of(&DELTAS), count);
-        let packet = Packet::new(valid::header(random, 3), vec![dwell.segment()]).bytes();
-        assert_eq!(held(comparison.read(3, &packet, 65_536)).number, number);
-    }
+    let targets = |count| valid::longest(count).bytes();
+    assert_eq!(held(comparison.read(3, &targets(1453), 65_536)), Answer::accepted(1, 1, 1453, 65_506));
+    assert_eq!(held(comparison.read(3, &targets(1454), 65_536)), Answer::refused(16, 0, 0));
     assert_eq!(held(comparison.read(3, &packet_of(65_536), 65_536)), Answer::refused(16, 0, 0));
     assert_eq!(held(comparison.read(3, &packet_of(65_537), 65_536)), Answer::refused(2, 0, 0));
 }
@@ -112,7 +108,7 @@ fn most_segments() {
         comparison.begin("most segments", number as u64);
         let (_, newer) = held(comparison.packet(&packet));
         assert_eq!(newer.segments as usize, count);
-        assert!(newer.length as usize <= longest_sheet(packet.len()));
+        assert!(newer.length as usize <= sheet_bound(packet.len()));
     }
 }
 

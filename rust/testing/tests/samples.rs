@@ -36,9 +36,9 @@ fn answers() -> Vec<(String, String, String)> {
 
 type Reader = fn(u32, &[u8], &mut [u8]) -> Answer;
 
-/// What the reader answers, and the lent sheet afterwards.
+/// What the reader answers, lent a few bytes more than the bound, and the lent sheet afterwards.
 fn reading(reader: Reader, edition: u32, packet: &[u8]) -> (Answer, Vec<u8>) {
-    let mut sheet = vec![0xAA; 4096];
+    let mut sheet = vec![0xAA; gmti::sheet_bound(packet.len()) + 9];
     let answer = reader(edition, packet, &mut sheet);
     (answer, sheet)
 }
@@ -138,6 +138,17 @@ fn d27_and_j26_are_shown_and_withheld() {
     assert_eq!(withheld_fields(3, "version_1_dwell_and_job.gmti"), shown);
     assert_eq!(withheld_fields(3, "version_3_dwell_and_job.gmti"), shown);
     assert_eq!(withheld_fields(1, "version_3_dwell_and_job.gmti"), [0; 5]);
+}
+
+/// long_sheet.gmti is request A2's packet with 1,453 targets, and the one with 1,454 is the first whose sheet is above 65,536 bytes.
+#[test]
+fn the_long_sheet_is_that_of_the_request() {
+    let packet = bytes_of("long_sheet.gmti");
+    assert!(packet == independent::longest_output(b"1453\n"));
+    let length = reading(gmti::read, 3, &packet).0.length;
+    let next = reading(gmti::read, 3, &independent::longest_output(b"1454\n")).0.length;
+    assert!((length..next).contains(&65_536), "{length} {next}");
+    assert_eq!(length as usize, gmti::sheet_bound(packet.len()) - 542);
 }
 
 #[test]

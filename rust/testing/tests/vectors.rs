@@ -4,7 +4,7 @@ use std::path::{Path, PathBuf};
 use std::process::{Command, Output};
 use testing::root;
 
-const PROGRAMS: [&str; 5] = ["gmti_trials", "gmti_editions", "gmti_read", "gmti_sheet", "gmti_write"];
+const PROGRAMS: [&str; 6] = ["gmti_trials", "gmti_editions", "gmti_read", "gmti_sheet", "gmti_write", "gmti_longest"];
 
 fn vectors(arguments: &[&Path]) -> Output {
     Command::new(env!("CARGO_BIN_EXE_vectors")).args(arguments).output().expect("the program starts")
@@ -38,7 +38,7 @@ fn files_are_up_to_date() {
             compared += 1;
         }
     }
-    assert_eq!(compared, 11);
+    assert_eq!(compared, 13);
 }
 
 /// One digit of one answer changed is found.

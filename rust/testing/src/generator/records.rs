@@ -110,13 +110,8 @@ pub fn patch_size(records: &mut [Record]) {
 
 /// The sheet of an accepted packet, by the independent implementation.
 pub fn sheet_of(edition: u32, packet: &[u8]) -> Option<Vec<u8>> {
-    let mut sheet = vec![0; longest_sheet(packet.len())];
+    let mut sheet = vec![0; independent::sheet_bound(packet.len())];
     let answer = independent::read(edition, packet, &mut sheet);
     sheet.truncate(answer.length as usize);
     answer.is_accepted().then_some(sheet)
-}
-
-/// No packet of so many bytes has a longer sheet: a target of 4 bytes gives 45, and nothing gives more for a byte.
-pub fn longest_sheet(packet_length: usize) -> usize {
-    33 + packet_length.saturating_sub(32) * 45 / 4
 }

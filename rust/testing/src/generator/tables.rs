@@ -33,6 +33,13 @@ const LEAST_DWELL: u32 = 48;
 /// The most dwells that a packet has room for.
 pub const MOST_DWELLS: u32 = (LONGEST_PACKET - HEADER) / LEAST_DWELL;
 
+/// Those of D10 and D11, and those of D32.4 and D32.5.
+const SCALES: u32 = 8;
+const LEAST_TARGET: u32 = 4;
+
+/// The most targets that a packet has room for.
+pub const MOST_TARGETS: u32 = (LONGEST_PACKET - HEADER - LEAST_DWELL - SCALES) / LEAST_TARGET;
+
 /// The groups of both versions.
 pub const GROUPS: [&[u32]; 7] = [&[12, 13, 14], &[15, 16, 17], &[18, 19, 20], &[21, 22, 23], &DELTAS, &ABSOLUTE, &[47, 48]];
 

@@ -2,7 +2,8 @@
 use super::pairs;
 use super::random::Random;
 use super::spelling::{Dwell, Packet, Segment, Target};
-use super::tables::{bit, is_text, mask_of, width, ABSOLUTE, ALWAYS, ANGLES, DELTAS, GROUPS, LAST_FIELD, NEW_MODES, OPAQUE_TYPES, SINGLE};
+use super::tables::{bit, is_text, mask_of, width, ABSOLUTE, ALWAYS, ANGLES, DELTAS, GROUPS, HEADER_TEXT, LAST_FIELD, NEW_MODES};
+use super::tables::{OPAQUE_TYPES, SINGLE};
 
 /// What the segments of a packet may hold.
 #[derive(Clone, Copy, Debug)]
@@ -65,6 +66,21 @@ pub fn packet_by_pairs(random: &mut Random, pairs: &[u32]) -> Packet {
     let mut segments = vec![dwell; pairs.len()];
     pairs::set(&mut segments, pairs);
     Packet::new(header(random, 3), segments)
+}
+
+/// A packet whose sheet falls 542 bytes short of the bound: one dwell with so many targets by deltas alone. P1 is 30 and text
+/// is spaces; all else but sizes, type, mask and D5 is zero. More targets than [`MOST_TARGETS`](super::tables::MOST_TARGETS) make it too
+/// long.
+pub fn longest(targets: u32) -> Packet {
+    let mut header = [0; 32];
+    header[..2].copy_from_slice(b"30");
+    for (_, first, last) in HEADER_TEXT {
+        header[first..last].fill(b' ');
+    }
+    let mut values = [0; 32];
+    values[5] = targets;
+    let dwell = Dwell { mask: mask_of(&ALWAYS) | mask_of(&DELTAS), values, targets: vec![[0; 19]; targets as usize] };
+    Packet::new(header, vec![dwell.segment()])
 }
 
 /// A header of this version with any digit; P2 is left for later.

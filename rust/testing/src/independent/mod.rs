@@ -3,11 +3,13 @@
 //! `tables` holds the names, widths and ranges of the document in its order,
 //! `dwell` the mask and the dwell's layout, `positions` the arithmetic of
 //! latitude and longitude, `packet` the reading and the segments, `read` the rows
-//! 1 to 16, `sheet` the records, `write` the rows 17 to 20, and `editions` what
-//! tells the two readings of a version 3 packet apart.
+//! 1 to 16, `sheet` the records, `write` the rows 17 to 20, `editions` what tells
+//! the two readings of a version 3 packet apart, and `longest` how long a sheet
+//! can get.
 
 mod dwell;
 mod editions;
+mod longest;
 mod packet;
 mod positions;
 mod read;
@@ -19,5 +21,6 @@ mod write;
 mod trials;
 
 pub use editions::{fill_in, first_new};
+pub use longest::{longest_output, longest_packet, sheet_bound};
 pub use read::read;
 pub use write::write;

@@ -4,7 +4,7 @@
 
 use super::positions::{LatitudeSteps, LongitudeSteps};
 use super::tables::{is_new_radar_mode, DWELL_FIELDS, TARGET_FIELDS};
-use super::{fill_in, first_new, read, write};
+use super::{fill_in, first_new, read, sheet_bound, write};
 use gmti::Answer;
 
 /// D2 to D9 and D24 to D27: the mask of the trial with S2 48.
@@ -79,11 +79,13 @@ fn free_text(f3: &[u8]) -> Vec<u8> {
 }
 
 /// The answer and the sheet of a reading into a large buffer; holds that the
-/// bytes after the sheet, or all of them on a refusal, are unchanged.
+/// bytes after the sheet, or all of them on a refusal, are unchanged, and that
+/// the sheet is no longer than request A2 allows.
 fn sheet_of(edition: u32, packet: &[u8]) -> (Answer, Vec<u8>) {
     let mut sheet = vec![0xA5; 800_000];
     let answer = read(edition, packet, &mut sheet);
     let length = answer.length as usize;
+    assert!(length <= sheet_bound(packet.len()));
     assert!(sheet[length..].iter().all(|byte| *byte == 0xA5));
     sheet.truncate(length);
     (answer, sheet)

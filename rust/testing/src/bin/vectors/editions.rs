@@ -1,11 +1,12 @@
 //! Packets on which demand 3 is run.
+use crate::longest;
 use crate::newer::NEW;
 use crate::parts::{by_deltas, dwell, dwell_of, every_kind, header, job, location, mission, packet, raw, segment, test, text};
 use crate::parts::{trial, trial_dwell, Part, ABSOLUTE, ALL_DELTAS};
 use crate::trials::is_name;
 use crate::verdict::{verdict, INDEPENDENT};
 use std::collections::BTreeSet;
-use testing::generator::tables::MOST_DWELLS;
+use testing::generator::tables::{MOST_DWELLS, MOST_TARGETS};
 
 /// The list, and what is wrong with it.
 #[derive(Default)]
@@ -41,6 +42,7 @@ pub fn list() -> Editions {
     version_1(&mut e);
     refused(&mut e);
     pairs(&mut e);
+    long_sheets(&mut e);
     e
 }
 
@@ -182,4 +184,12 @@ fn pairs(e: &mut Editions) {
     e.add("full packet of dwells in rising order", packet(3, &full), "alike ok 1364 1364 0 120065");
     full.reverse();
     e.add("full packet of dwells in falling order", packet(3, &full), "alike ok 1364 1364 0 120065");
+}
+
+/// Sheets that fall 542 bytes short of the bound: the second is the last that fits 65,536 bytes.
+fn long_sheets(e: &mut Editions) {
+    for (targets, length) in [(1, 166), (1453, 65_506), (1454, 65_551), (MOST_TARGETS, 736_411)] {
+        let name = format!("longest packet of {targets} targets");
+        e.add(&name, longest::packet(targets), &format!("alike ok 1 1 {targets} {length}"));
+    }
 }

@@ -1,9 +1,9 @@
 //! The files of the programs: lines of vectors, and the sample packets.
 use crate::editions::Editions;
-use crate::lines;
 use crate::parts::{every_kind, packet, trial};
 use crate::trials::{Trial, Trials, LENT};
 use crate::verdict::{verdict, Implementation, INDEPENDENT};
+use crate::{lines, longest};
 use std::fmt::Write;
 use testing::generator::records::{sheet_of, split};
 
@@ -71,6 +71,8 @@ pub fn all(trials: &Trials, editions: &Editions) -> Vec<File> {
         ("gmti_sheet/stdout", sheet.clone()),
         ("gmti_write/stdin", sheet),
         ("gmti_write/stdout", whole),
+        ("gmti_longest/stdin", longest::GIVEN.to_vec()),
+        ("gmti_longest/stdout", longest::written()),
     ]
 }
 

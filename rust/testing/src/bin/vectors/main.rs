@@ -9,6 +9,7 @@ mod editions;
 mod files;
 mod heads;
 mod lines;
+mod longest;
 mod newer;
 mod order;
 mod parts;
@@ -28,7 +29,7 @@ use trials::Trials;
 use verdict::{Implementation, INDEPENDENT, VERIFIED};
 
 /// The readings, then the writings. Lists that came later stand behind these: how much is lent to a refusal goes by its place.
-const LISTS: [fn(&mut Trials); 58] = [
+const LISTS: [fn(&mut Trials); 59] = [
     heads::call,
     heads::versions,
     heads::packet_sizes,
@@ -87,6 +88,7 @@ const LISTS: [fn(&mut Trials); 58] = [
     written::pairs,
     dwells::other_types,
     written::other_types,
+    longest::lent,
 ];
 
 fn main() -> ExitCode {
@@ -111,6 +113,7 @@ fn write(root: &Path) -> Vec<String> {
     }
     let editions = editions::list();
     let mut faults = [&trials.faults[..], &editions.faults, &lines::trials().faults, &lines::editions().faults].concat();
+    faults.extend(longest::faults());
     faults.extend(untried(&trials));
     faults
         .extend(trials.trials.iter().filter(|trial| trial.lent > files::MOST_LENT).map(|trial| format!("{}: lends too much", trial.name)));

@@ -1,0 +1,4 @@
+pub mod Longest
+pub mod FallsShort
+pub mod Input
+pub mod Trials
