@@ -53,11 +53,14 @@ fn first_other(a: &[u8], i: usize, b: &[u8], j: usize, c: &[u8], k: usize) -> us
     0
 }
 
-// P3, P5 and P8.
+// P3, P5 and P8. Where all three are printable, as nearly always, nothing else is looked at.
 fn header_text(l: &[u8]) -> usize
     requires { ⌜ 32 ≤ length (now l) ⌝ }
     ensures { λ r. ⌜ r ≡ textFault headerWidths headerTexts (now (l .entry)) ⌝ }
 {
+    if text::is_line(&l[6..8]) && text::is_line(&l[9..11]) && text::is_line(&l[14..24]) {
+        return 0;
+    }
     first_other(&l[6..8], 3, &l[9..11], 5, &l[14..24], 8)
 }
 

@@ -5,7 +5,7 @@ use mathlib.Core.Bool.{_&&_, _||_}
 use mathlib.Core.Logic.{⊎-elim}
 use borrow.Author.Tests.{le-leb, lt-leb}
 use lib.Dec.{leb, eqb}
-use Rattle.text.specs.Text.{isTextByte}
+use Rattle.text.specs.Text.{isPrintable, isTextByte}
 use Rattle.text.proofs.is_text_byte.Statement.{statement}
 use Rattle.text.proofs.is_text_byte.Tie as tie
 
@@ -29,11 +29,11 @@ or-12 c =
     (c .if3 .came)
 
 returns : tie.Need-returns
-unfolding isTextByte
+unfolding isTextByte isPrintable
 returns c = rw (sym (or-12 (c .before)) ∙ c .if4 .taken) (c .if4 .taken)
 
 returns-2 : tie.Need-returns-2
-unfolding isTextByte
+unfolding isTextByte isPrintable
 returns-2 c = rw (sym (or-12 (c .before)) ∙ c .if4 .left)
 
 pub is-text-byte-spec : {M : Type 1} → statement M
