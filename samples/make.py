@@ -29,10 +29,10 @@ def angle(degrees, bits=32):  # BA32, BA16
     return round(degrees * 2**bits / 360)
 
 
-def packet(version, *segments):
+def packet(version, *segments, platform="LN-ICE"):
     body = b"".join(segments)
     owner = b"NO" + number(5, 1) + b"  " + number(0, 2) + number(129, 1)  # not classified; an exercise, simulated data
-    return version + number(32 + len(body), 4) + owner + text("LN-ICE", 10) + number(17, 4) + number(3, 4) + body
+    return version + number(32 + len(body), 4) + owner + text(platform, 10) + number(17, 4) + number(3, 4) + body
 
 
 def segment(type_number, body):
@@ -151,6 +151,7 @@ def samples():
         "version_1_dwell_and_job": packet(b"10", dwell(place(0), three), job(1)),
         "version_3_dwell_and_job": packet(b"30", dwell(place(0), three), job(1)),
         "long_sheet": long_sheet(1453),
+        "damaged_platform_name": packet(b"30", mission, platform="LN-ICE\n"),
         "damaged_height": packet(b"30", dwell(place(5), bad)),
         "damaged_cut_short": packet(b"30", dwell(place(0), three))[:-10],
         "split_dwell": packet(b"30", *split_dwell()),  # last, so that the others keep what they drew of SCATTER

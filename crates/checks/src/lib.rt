@@ -5,7 +5,7 @@ ghost use mathlib.Core.List.{[], _∷_};
 ghost use Prim.Native.Nat.{_≤_};
 ghost use lib.Dec.{eqb};
 ghost use lib.ListN.{length};
-ghost use Rattle.text.specs.Text.{isText, textFault};
+ghost use Rattle.text.specs.Text.{textFault};
 ghost use Rattle.octets.specs.Octets.{between};
 ghost use Rattle.format.specs.Packet.{headerWidths, headerTexts, missionWidths, missionTexts, freeTextWidths, freeTextTexts};
 ghost use Rattle.format.specs.declared.Check.the-variants.{Passed};
@@ -37,31 +37,32 @@ fn is_version(first: u8, second: u8) -> bool
     (first == 0x31 || first == 0x33) && (0x30 <= second && second <= 0x39)
 }
 
-// The number i, j or k of the first of three fields that is not text, and 0 where all are.
-fn first_other(a: &[u8], i: usize, b: &[u8], j: usize, c: &[u8], k: usize) -> usize
-    ensures { λ r. ⌜ r ≡ cond (isText (now (a .entry))) (cond (isText (now (b .entry))) (cond (isText (now (c .entry))) 0 k) j) i ⌝ }
+// The number i, j or k of the first of three tests that fails, and 0 where none does. All three are made first, with no branch between, since
+// nearly every packet passes all of them.
+fn first_failed(a: bool, i: usize, b: bool, j: usize, c: bool, k: usize) -> usize
+    ensures { λ r. ⌜ r ≡ cond a (cond b (cond c 0 k) j) i ⌝ }
 {
-    if !text::is_text(a) {
+    if !a {
         return i;
     }
-    if !text::is_text(b) {
+    if !b {
         return j;
     }
-    if !text::is_text(c) {
+    if !c {
         return k;
     }
     0
 }
 
-// P3, P5 and P8. Where all three are printable, as nearly always, nothing else is looked at.
+// P3, P5 and P8.
 fn header_text(l: &[u8]) -> usize
     requires { ⌜ 32 ≤ length (now l) ⌝ }
     ensures { λ r. ⌜ r ≡ textFault headerWidths headerTexts (now (l .entry)) ⌝ }
 {
-    if text::is_line(&l[6..8]) && text::is_line(&l[9..11]) && text::is_line(&l[14..24]) {
-        return 0;
-    }
-    first_other(&l[6..8], 3, &l[9..11], 5, &l[14..24], 8)
+    let p3 = text::is_line(&l[6..8]);
+    let p5 = text::is_line(&l[9..11]);
+    let p8 = text::is_line(&l[14..24]);
+    first_failed(p3, 3, p5, 5, p8, 8)
 }
 
 pub fn header_check(settings: format::Settings, l: &[u8]) -> Check
@@ -97,7 +98,10 @@ fn mission_text(b: &[u8]) -> usize
     requires { ⌜ 39 ≤ length (now b) ⌝ }
     ensures { λ r. ⌜ r ≡ textFault missionWidths missionTexts (now (b .entry)) ⌝ }
 {
-    first_other(&b[0..12], 1, &b[12..24], 2, &b[25..35], 4)
+    let m1 = text::is_line(&b[0..12]);
+    let m2 = text::is_line(&b[12..24]);
+    let m4 = text::is_line(&b[25..35]);
+    first_failed(m1, 1, m2, 2, m4, 4)
 }
 
 pub fn mission_check(b: &[u8]) -> Check
@@ -125,7 +129,7 @@ pub fn job_check(r: format::Reading, b: &[u8]) -> Check
     if b.len() != 68 {
         return Check::Failed(9, 0);
     }
-    if !text::is_text(&b[5..11]) {
+    if !text::is_line(&b[5..11]) {
         return Check::Failed(10, 3);
     }
     if editions::is_older(r) && editions::is_new_mode(b[format::JobRecord::J14]) {
@@ -134,12 +138,15 @@ pub fn job_check(r: format::Reading, b: &[u8]) -> Check
     Check::Passed
 }
 
-// F1, F2 and F3.
+// F1 and F2, each on one line, and F3, any text.
 fn free_text(b: &[u8]) -> usize
     requires { ⌜ 20 ≤ length (now b) ⌝ }
     ensures { λ r. ⌜ r ≡ textFault (freeTextWidths (now (b .entry))) freeTextTexts (now (b .entry)) ⌝ }
 {
-    first_other(&b[0..10], 1, &b[10..20], 2, &b[20..], 3)
+    let f1 = text::is_line(&b[0..10]);
+    let f2 = text::is_line(&b[10..20]);
+    let f3 = text::is_text(&b[20..]);
+    first_failed(f1, 1, f2, 2, f3, 3)
 }
 
 pub fn text_check(b: &[u8]) -> Check

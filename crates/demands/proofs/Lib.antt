@@ -20,3 +20,4 @@ pub mod Numbers
 pub mod Bound
 pub mod Longitudes
 pub mod Named
+pub mod OneLine

@@ -13,7 +13,7 @@ use lib.Dec.{T, ltb, leb, eqb, lit<, lit≤}
 use lib.ListN.{length, getD, take, drop, length-drop}
 use Rattle.octets.specs.Layout.{field as fieldOf}
 use Rattle.distinct.proofs.Laws.{no-longer}
-use Rattle.text.specs.Text.{isText, textFault}
+use Rattle.text.specs.Text.{TextField, all, textFault}
 use Rattle.mask.specs.Fields.{announced}
 use Rattle.mask.specs.Mask.{firstFrom, isFault, lowestFault, isGap, d28to30, newInMask}
 use Rattle.format.specs.declared.Settings.{Settings}
@@ -45,17 +45,17 @@ abbrev IsField : ℕ → Type 0
 IsField n = n ≤ 65
 
 -- so each of a list, as a test that computes
-abbrev areFields : List ℕ → Bool
+abbrev areFields : List TextField → Bool
 areFields [] = true
-areFields (n ∷ ns) = leb n 65 && areFields ns
+areFields (t ∷ ts) = leb (t .number) 65 && areFields ts
 
 -- the first field that is not text is one of those looked at
-text-field : (ws ns b : List ℕ) → areFields ns ≡ true → IsField (textFault ws ns b)
+text-field : (ws : List ℕ) (ts : List TextField) (b : List ℕ) → areFields ts ≡ true → IsField (textFault ws ts b)
 unfolding textFault
 text-field ws [] b h = lit≤ tt
-text-field ws (n ∷ ns) b h =
-    let t = both (leb n 65) (areFields ns) h in
-    either IsField (isText (fieldOf 1 ws n b)) (text-field ws ns b (t .1)) (leb-true n 65 (t .0))
+text-field ws (t ∷ ts) b h =
+    let parts = both (leb (t .number) 65) (areFields ts) h in
+    either IsField (all (t .holds) (fieldOf 1 ws (t .number) b)) (text-field ws ts b (parts .1)) (leb-true (t .number) 65 (parts .0))
 
 -- the first at which f holds, of k numbers from n on, is one of them
 first-field : (f : ℕ → Bool) (k n : ℕ) → n + k ≤ 66 → IsField (firstFrom f k n)

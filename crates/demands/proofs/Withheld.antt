@@ -5,10 +5,10 @@ use Prim.Native.Nat.{ℕ, _+_, _≤_}
 use native.Mathlib.Omega.{arith}
 use mathlib.Core.Path.{_≡_, sym, ap₂, _∙_}
 use mathlib.Core.List.{List, [], _∷_, _++_, append-assoc, append-nil}
-use lib.ListN.{length, take, drop, length-append, length-drop, take-append-drop, drop-of-length-le}
+use lib.ListN.{length, take, drop, length-append, take-append-drop, drop-of-length-le}
 use lib.Seq.{length-take-le, take-append-le, drop-append-le, take-append-add, drop-append-add, take-at, drop-at, take-add}
 use Rattle.octets.specs.Layout.{pad, width, offset, field, replaced, zeroed, copied}
-use Rattle.octets.proofs.Layouts.{length-pad, length-zeroed}
+use Rattle.octets.proofs.Layouts.{length-pad, length-zeroed, field-front}
 use Rattle.format.specs.Sheet.{Record, recordBytes}
 use Rattle.format.specs.Writer.{listed}
 use Rattle.demands.specs.Filled.{changed}
@@ -41,14 +41,6 @@ module _ (first : ℕ) (ws : List ℕ) (n : ℕ) (b : List ℕ) (within : offset
   replaced-before v c =
       let at : offset first ws n ≤ length b = omega arith in
       rw (take-append-le (offset first ws n) b c at, drop-append-le (offset first ws n + width first ws n) b c within) (sym (append-assoc (take (offset first ws n) b ++ v) (drop (offset first ws n + width first ws n) b) c))
-
-  -- and its bytes are the same
-  field-before : (c : List ℕ) → field first ws n (b ++ c) ≡ field first ws n b
-  unfolding field
-  field-before c =
-      let at : offset first ws n ≤ length b = omega arith in
-      let here : width first ws n ≤ length (drop (offset first ws n) b) = rw length-drop (omega arith) in
-      rw (drop-append-le (offset first ws n) b c at, take-append-le (width first ws n) (drop (offset first ws n) b) c here)
 
   -- of two replacements the later one holds
   replaced-again : (u v : List ℕ) → length v ≡ width first ws n → replaced first ws n u (replaced first ws n v b) ≡ replaced first ws n u b
@@ -86,7 +78,7 @@ module _ (ws : List ℕ) (n mark : ℕ) (b : List ℕ) (within : offset 1 ws n +
   filled-body =
       let same = length-zeroed 1 ws n b within in
       let still : offset 1 ws n + width 1 ws n ≤ length (zeroed 1 ws n b) = rw same within in
-      rw (field-before 1 ws n b within, replaced-before 1 ws n (zeroed 1 ws n b) still, replaced-again 1 ws n b within (field 1 ws n b) (pad (width 1 ws n) []) (length-pad (width 1 ws n) []), replaced-own 1 ws n b within)
+      rw (field-front 1 ws n b (1 ∷ []) within, replaced-before 1 ws n (zeroed 1 ws n b) still, replaced-again 1 ws n b within (field 1 ws n b) (pad (width 1 ws n) []) (length-pad (width 1 ws n) []), replaced-own 1 ws n b within)
       (replaced-last 1 ws mark (1 ∷ []) b (0 ∷ []) last (sym one))
 
   -- a withheld body is as long

@@ -106,7 +106,7 @@ module _ (x buffer : List ℕ) where
       go (Failed number field) h e = no-refusal number 0 0 s d t n e
 
   -- a sheet to which no row applies is the one that the packet spelt from it reads to
-  reads-back : firstRow (writerRows x (length buffer)) ≡ Passed → readsBack (spell x) x ≡ true
+  pub reads-back : firstRow (writerRows x (length buffer)) ≡ Passed → readsBack (spell x) x ≡ true
   unfolding writerRows sheetRows
   reads-back e =
       let seventeen = first-passes _ _ e in
@@ -115,7 +115,7 @@ module _ (x buffer : List ℕ) where
       not-false _ (neither (ltb 65536 (length (spell x))) _ (nineteen .0) .1)
 
 -- what reading back says: the packet is accepted, and its sheet is this one
-back-means : (l x : List ℕ) → readsBack l x ≡ true → Acceptable (asEdition 3) l (length x) × (sheet (asEdition 3) l ≡ x)
+pub back-means : (l x : List ℕ) → readsBack l x ≡ true → Acceptable (asEdition 3) l (length x) × (sheet (asEdition 3) l ≡ x)
 unfolding readsBack
 back-means l x e = go (readingAnswer (asEdition 3) l (length x)) refl e
   where

@@ -23,11 +23,12 @@ use Rattle.format.specs.declared.New.the-variants.{Nothing, Found}
 use Rattle.format.specs.New.{firstNew}
 use Rattle.format.specs.Reader.{dwellsIn, targetsIn, readingOf, parsed, setOut, sheet, read}
 use Rattle.format.specs.Bound.{formula, sheetBound, EnoughFor}
-use Rattle.format.specs.Writer.{listed, isAccepted, writerRows, spell, writerAnswer, write}
+use Rattle.format.specs.Writer.{listed, isAccepted, sheetRows, writerRows, spell, writerAnswer, write}
 use Rattle.demands.specs.First.{FirstRow, NoRow}
 use Rattle.demands.specs.Filled.{filledIn}
 use Rattle.demands.specs.Places.{isWithheldAt}
 use Rattle.demands.specs.Counts.{count, isKind, isLeader, pairsOn}
+use Rattle.demands.specs.Names.{namesAreLines}
 
 -- an accepted call, and what it leaves
 abbrev pub accepted : ℕ → ℕ → ℕ → ℕ → List ℕ → Outcome
@@ -103,6 +104,16 @@ pub record SheetBound : Type 0 where
   pub at-most : (settings : Settings) (l lent : List ℕ) (s d t n : ℕ) → read settings l lent .answer ≡ Accepted s d t n
       → n ≤ formula (length l)
   pub enough : (n : ℕ) → EnoughFor n (sheetBound n)
+
+-- ---- Document 02, A3: "Text in fields other than F3 now holds only 0x20 to 0x7E." So each name on the sheet of an accepted packet is on
+-- one line, whatever it is read as. "A sheet with a line feed in a name can no longer be written, since no accepted packet has it": nor
+-- can one with any other byte outside 0x20 to 0x7E. It is refused, with 19 where rows 17 and 18, the first two of `sheetRows`, do not apply.
+pub record NamesOnOneLine : Type 0 where
+  pub on-sheets : (settings : Settings) (l lent : List ℕ) (s d t n : ℕ) → read settings l lent .answer ≡ Accepted s d t n
+      → namesAreLines (listed (sheet settings l) .records) ≡ true
+  pub not-written : (x lent : List ℕ) → namesAreLines (listed x .records) ≡ false → isAccepted (write x lent .answer) ≡ false
+  pub refused-with-19 : (x lent : List ℕ) → namesAreLines (listed x .records) ≡ false → firstRow (take 2 (sheetRows x)) ≡ Passed
+      → write x lent ≡ refused 19 0 0 lent
 
 -- ---- Demand 3
 

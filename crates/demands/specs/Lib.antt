@@ -4,3 +4,4 @@ pub mod Places
 pub mod Counts
 pub mod Demands
 pub mod Trials
+pub mod Names

@@ -4,7 +4,7 @@ use Prim.Native.Nat.{ℕ}
 use mathlib.Core.Path.{_≡_}
 use mathlib.Core.Bool.{Bool, true, false}
 use mathlib.Core.List.{List, [], _∷_, _++_, map}
-use lib.ListN.{length, drop}
+use lib.ListN.{length, drop, set, replicate}
 use Rattle.octets.specs.Octets.{bytes}
 use Rattle.distinct.specs.Distinct.{withoutRepeats}
 use Rattle.format.specs.Edition.{asEdition}
@@ -18,6 +18,7 @@ use Rattle.format.specs.Writer.{listed}
 use Rattle.demands.specs.Filled.{filledIn}
 use Rattle.demands.specs.Places.{isWithheldAt}
 use Rattle.demands.specs.Counts.{count, isKind, isLeader, pairsOn}
+use Rattle.demands.specs.Names.{namesAreLines}
 
 -- the packet
 unfoldable pub mixed : List ℕ
@@ -31,9 +32,14 @@ mixed = version3 (
 abbrev pub withheldOf : List ℕ → List Bool
 withheldOf is = map (isWithheldAt (listed (sheet (asEdition 3) mixed) .records)) is
 
+-- whether the names on its sheet are lines, with a line feed in one of these places at a time
+abbrev pub namesWith : List ℕ → List Bool
+namesWith is = map (λ i. namesAreLines (listed (set (sheet (asEdition 3) mixed) i 0x0A) .records)) is
+
 -- both readings of it, its filled sheets (filled in from its sheet without the header, each record meets one of another
 -- kind), its counts; the places around D27 (151 and 152) and around its mark (160), around J26 (272) and its mark (275); something new
--- in a second segment; and the pairs of D2 and D3 of two dwells on an Edition 1 sheet
+-- in a second segment; the pairs of D2 and D3 of two dwells on an Edition 1 sheet; and a line feed at the first and the last byte of P3,
+-- P5, P8, M1, M2, M4, J3, F1 and F2, and beside them, also in F3
 unfoldable pub trials : List (Type 0)
 trials =
     (read (asEdition 3) mixed (zeros 400) .answer ≡ Accepted 4 1 1 369)
@@ -49,4 +55,8 @@ trials =
     ∷ (firstNew 1 (parsed (asEdition 3) (version3 (mission 1 1 ++ job 96 ++ segment 3 [])) .segments) ≡ Found 2 14)
     ∷ (length (withoutRepeats isSamePair (pairsOn (listed (sheet (asEdition 3) (version3 (numbered 1 2 ++ numbered 1 2))) .records))) ≡ 1)
     ∷ (pairsOn (listed (sheet (asEdition 1) (version3 (numbered 1 2 ++ numbered 1 3))) .records) ≡ record { d2 = 1; d3 = 2 } ∷ record { d2 = 1; d3 = 3 } ∷ [])
+    ∷ (namesWith (7 ∷ 8 ∷ 10 ∷ 11 ∷ 15 ∷ 24 ∷ []) ≡ replicate 6 false)
+    ∷ (namesWith (34 ∷ 45 ∷ 46 ∷ 57 ∷ 59 ∷ 68 ∷ []) ≡ replicate 6 false)
+    ∷ (namesWith (212 ∷ 217 ∷ 277 ∷ 286 ∷ 287 ∷ 296 ∷ []) ≡ replicate 6 false)
+    ∷ (namesWith (6 ∷ 9 ∷ 12 ∷ 14 ∷ 25 ∷ 58 ∷ 69 ∷ 211 ∷ 218 ∷ 297 ∷ 303 ∷ 334 ∷ []) ≡ replicate 12 true)
     ∷ []

@@ -13,7 +13,7 @@ use lib.Seq.{take-all}
 use Rattle.octets.specs.Octets.{be, bytes}
 use Rattle.octets.specs.Layout.{total, field, value}
 use Rattle.octets.proofs.Laws.{be-bytes}
-use Rattle.text.specs.Text.{isPrintable, isTextByte, all, textFault}
+use Rattle.text.specs.Text.{isLineByte, isTextByte, all, textFault}
 use Rattle.format.specs.declared.Reading.{Reading}
 use Rattle.format.specs.declared.Check.the-variants.{Passed}
 use Rattle.format.specs.Packet.{headerWidths, headerTexts, P, isP1, version, typeAt, sizeAt, bodyAt, segmentAt, s2, segmentBytes, isKnown}
@@ -47,7 +47,7 @@ module _ (s : List ℕ) where
   p1-is = refl
 
   text-is : textFault headerWidths headerTexts (version3 s) ≡ 0
-  unfolding textFault all isTextByte isPrintable field total packet bytes
+  unfolding textFault all isTextByte isLineByte field total packet bytes
   text-is = refl
 
   -- no row applies to its header

@@ -8,6 +8,7 @@ use lib.Dec.{eqb}
 use lib.ListN.{length, getD, take, drop}
 use Rattle.octets.specs.Octets.{be, bytes, between}
 use Rattle.octets.specs.Layout.{value}
+use Rattle.text.specs.Text.{TextField, oneLine, anyText}
 use Rattle.mask.specs.Mask.{isIn}
 
 -- "Header fields, with widths in bytes: P1 version 2, P2 packet size 4, P3 nationality 2, P4 classification 1, P5 system 2,
@@ -15,9 +16,9 @@ use Rattle.mask.specs.Mask.{isIn}
 abbrev pub headerWidths : List ℕ
 headerWidths = 2 ∷ 4 ∷ 2 ∷ 1 ∷ 2 ∷ 2 ∷ 1 ∷ 10 ∷ 4 ∷ 4 ∷ []
 
--- "Text (P3, P5, P8 ..)"
-abbrev pub headerTexts : List ℕ
-headerTexts = 3 ∷ 5 ∷ 8 ∷ []
+-- "Text (P3, P5, P8 ..)", each on one line (request A3)
+abbrev pub headerTexts : List TextField
+headerTexts = oneLine 3 ∷ oneLine 5 ∷ oneLine 8 ∷ []
 
 -- the number in a header's field
 abbrev pub P : ℕ → List ℕ → ℕ
@@ -73,9 +74,9 @@ isKnown t = isIn t (1 ∷ 2 ∷ 5 ∷ 6 ∷ 10 ∷ 13 ∷ opaqueTypes)
 abbrev pub missionWidths : List ℕ
 missionWidths = 12 ∷ 12 ∷ 1 ∷ 10 ∷ 2 ∷ 1 ∷ 1 ∷ []
 
--- "M1 12 text, M2 12 text, .. M4 10 text"
-abbrev pub missionTexts : List ℕ
-missionTexts = 1 ∷ 2 ∷ 4 ∷ []
+-- "M1 12 text, M2 12 text, .. M4 10 text", each on one line
+abbrev pub missionTexts : List TextField
+missionTexts = oneLine 1 ∷ oneLine 2 ∷ oneLine 4 ∷ []
 
 -- the number in a mission's field
 abbrev pub M : ℕ → List ℕ → ℕ
@@ -87,9 +88,9 @@ abbrev pub jobWidths : List ℕ
 jobWidths =
     4 ∷ 1 ∷ 6 ∷ 1 ∷ 1 ∷ 4 ∷ 4 ∷ 4 ∷ 4 ∷ 4 ∷ 4 ∷ 4 ∷ 4 ∷ 1 ∷ 2 ∷ 2 ∷ 2 ∷ 2 ∷ 1 ∷ 2 ∷ 2 ∷ 2 ∷ 2 ∷ 1 ∷ 1 ∷ 1 ∷ 1 ∷ 1 ∷ []
 
--- "J3 6 text"
-abbrev pub jobTexts : List ℕ
-jobTexts = 3 ∷ []
+-- "J3 6 text", on one line
+abbrev pub jobTexts : List TextField
+jobTexts = oneLine 3 ∷ []
 
 -- the number in a job definition's field
 abbrev pub J : ℕ → List ℕ → ℕ
@@ -99,6 +100,6 @@ J n body = value 1 jobWidths n body
 abbrev pub freeTextWidths : List ℕ → List ℕ
 freeTextWidths body = 10 ∷ 10 ∷ (length body - 20) ∷ []
 
--- F1, F2, F3: "all text"
-abbrev pub freeTextTexts : List ℕ
-freeTextTexts = 1 ∷ 2 ∷ 3 ∷ []
+-- F1, F2, F3: "all text"; F1 and F2 on one line each, and "F3 keeps the wider set" (request A3)
+abbrev pub freeTextTexts : List TextField
+freeTextTexts = oneLine 1 ∷ oneLine 2 ∷ anyText 3 ∷ []

@@ -2,7 +2,7 @@
 -- Assumes nothing.
 use Prim.Native.Nat.{ℕ, _+_}
 use mathlib.Core.List.{List, [], _∷_, _++_}
-use lib.ListN.{length, replicate}
+use lib.ListN.{length, replicate, set}
 use Rattle.octets.specs.Octets.{bytes}
 use Rattle.format.specs.Packet.{segmentBytes}
 
@@ -84,3 +84,11 @@ mission m6 m7 = segment 1 (spaces 24 ++ zeros 1 ++ spaces 10 ++ zeros 2 ++ m6 �
 -- a free text with so many spaces in F3
 abbrev pub freeText : ℕ → List ℕ
 freeText n = segment 6 (spaces 20 ++ spaces n)
+
+-- a packet without segments in which one byte is replaced, counted from 0 at the packet's begin
+abbrev pub headerWith : ℕ → ℕ → List ℕ
+headerWith i c = set (version3 []) i c
+
+-- a packet of one segment in which one byte of the body is replaced, counted from 0 at the body's begin
+abbrev pub bodyWith : List ℕ → ℕ → ℕ → List ℕ
+bodyWith s i c = version3 (set s (5 + i) c)

@@ -1,6 +1,7 @@
 -- Trials of the meanings. `marked` are those that document 01 marks P, in one list; `printedResults` its two packets with a printed
 -- result; `editions` and `writing` tell the readings and the writer's rows from likely mistakes; `splitDwells` tells the dwells that are
--- counted from those that are not (request A1); `bounds` has the bound for some lengths (request A2).
+-- counted from those that are not (request A1); `bounds` has the bound for some lengths (request A2); `texts` tries both sets of text in
+-- the fields (request A3).
 -- Assumes nothing.
 use Prim.Native.Nat.{ℕ}
 use mathlib.Core.Path.{_≡_}
@@ -16,7 +17,7 @@ use Rattle.format.specs.Answer.{outcome}
 use Rattle.format.specs.Reader.{readingAnswer, sheet, read}
 use Rattle.format.specs.Bound.{sheetBound}
 use Rattle.format.specs.Writer.{write}
-use Rattle.format.specs.Samples.{zeros, version1, version3, segment, empty, numbered, printed, northmost, job, mission, freeText}
+use Rattle.format.specs.Samples.{zeros, version1, version3, segment, empty, numbered, printed, northmost, job, mission, freeText, headerWith, bodyWith}
 
 -- the Edition 1 reading with the program's sheet of 65,536 bytes
 abbrev pub read1 : List ℕ → Answer
@@ -143,4 +144,55 @@ bounds =
     ∷ (sheetBound 65535 ≡ 736941)
     ∷ (sheetBound 65536 ≡ 736953)
     ∷ (sheetBound 65537 ≡ 0)
+    ∷ []
+
+-- "Text in fields other than F3 now holds only 0x20 to 0x7E. F3 keeps the wider set." (request A3): a line feed as the first and as the last
+-- byte of each field of text, in the order of the fields; bytes at the ends of the two sets in P8 and in F3; the writer
+unfoldable pub texts : List (Type 0)
+texts =
+    -- P3, P5 and P8
+    (read3 (headerWith 6 0x0A) ≡ Refused 5 0 3)
+    ∷ (read3 (headerWith 7 0x0A) ≡ Refused 5 0 3)
+    ∷ (read3 (headerWith 9 0x0A) ≡ Refused 5 0 5)
+    ∷ (read3 (headerWith 10 0x0A) ≡ Refused 5 0 5)
+    ∷ (read3 (headerWith 14 0x0A) ≡ Refused 5 0 8)
+    ∷ (read1 (headerWith 23 0x0A) ≡ Refused 5 0 8)
+    -- M1, M2 and M4
+    ∷ (read3 (bodyWith (mission 1 1) 0 0x0A) ≡ Refused 10 1 1)
+    ∷ (read3 (bodyWith (mission 1 1) 11 0x0A) ≡ Refused 10 1 1)
+    ∷ (read3 (bodyWith (mission 1 1) 12 0x0A) ≡ Refused 10 1 2)
+    ∷ (read3 (bodyWith (mission 1 1) 23 0x0A) ≡ Refused 10 1 2)
+    ∷ (read3 (bodyWith (mission 1 1) 25 0x0A) ≡ Refused 10 1 4)
+    ∷ (read1 (bodyWith (mission 1 1) 34 0x0A) ≡ Refused 10 1 4)
+    -- J3
+    ∷ (read3 (bodyWith (job 94) 5 0x0A) ≡ Refused 10 1 3)
+    ∷ (read1 (bodyWith (job 94) 10 0x0A) ≡ Refused 10 1 3)
+    -- F1 and F2, and F3, which may hold one
+    ∷ (read3 (bodyWith (freeText 33) 0 0x0A) ≡ Refused 10 1 1)
+    ∷ (read3 (bodyWith (freeText 33) 9 0x0A) ≡ Refused 10 1 1)
+    ∷ (read3 (bodyWith (freeText 33) 10 0x0A) ≡ Refused 10 1 2)
+    ∷ (read1 (bodyWith (freeText 33) 19 0x0A) ≡ Refused 10 1 2)
+    ∷ (read3 (bodyWith (freeText 33) 20 0x0A) ≡ Accepted 1 0 0 126)
+    ∷ (read1 (bodyWith (freeText 33) 52 0x0A) ≡ Accepted 1 0 0 126)
+    -- a line feed in F2 and 0x01 in F3: "text, first field"
+    ∷ (read3 (version3 (set (set (freeText 33) 15 0x0A) 30 0x01)) ≡ Refused 10 1 2)
+    -- so in version 1, in both readings
+    ∷ (read1 (set (version1 []) 14 0x0A) ≡ Refused 5 0 8)
+    ∷ (read3 (set (version1 []) 14 0x0A) ≡ Refused 5 0 8)
+    -- the other bytes at the ends of the sets, in P8 and in F3
+    ∷ (read3 (headerWith 18 0x1F) ≡ Refused 5 0 8)
+    ∷ (read3 (headerWith 18 0x7E) ≡ Accepted 0 0 0 33)
+    ∷ (read3 (headerWith 18 0x7F) ≡ Refused 5 0 8)
+    ∷ (read3 (headerWith 18 0x0C) ≡ Refused 5 0 8)
+    ∷ (read3 (headerWith 18 0x0D) ≡ Refused 5 0 8)
+    ∷ (read3 (bodyWith (freeText 33) 40 0x1F) ≡ Refused 10 1 3)
+    ∷ (read3 (bodyWith (freeText 33) 40 0x7E) ≡ Accepted 1 0 0 126)
+    ∷ (read3 (bodyWith (freeText 33) 40 0x7F) ≡ Refused 10 1 3)
+    ∷ (read3 (bodyWith (freeText 33) 40 0x0C) ≡ Accepted 1 0 0 126)
+    ∷ (read3 (bodyWith (freeText 33) 40 0x0D) ≡ Accepted 1 0 0 126)
+    ∷ (read3 (bodyWith (freeText 33) 40 0x0B) ≡ Refused 10 1 3)
+    -- "A sheet with a line feed in a name can no longer be written": on the sheets P8 begins at 15, J3 at 39, F3 at 60
+    ∷ (write (set (sheet (asEdition 3) (version3 [])) 15 0x0A) (zeros 32) ≡ outcome (Refused 19 0 0) (zeros 32))
+    ∷ (write (set (sheet (asEdition 3) (version3 (job 94))) 39 0x0A) (zeros 105) .answer ≡ Refused 19 0 0)
+    ∷ (write (set (sheet (asEdition 3) (version3 (freeText 33))) 60 0x0A) (zeros 90) ≡ outcome (Accepted 1 0 0 90) (bodyWith (freeText 33) 20 0x0A))
     ∷ []

@@ -1,24 +1,18 @@
 -- A word that stands for a set of fields: its rule is one computed test over the 64 fields.
 -- Assumes nothing.
-use mathlib.Core.Path.{_≡_, refl, sym, ap, _∙_, subst}
+use mathlib.Core.Path.{_≡_, refl, sym, ap, _∙_}
 use mathlib.Core.Bool.{Bool, true, false, not, _&&_, Bool·beq, true≢false, and-true, and-false}
 use mathlib.Core.List.{List, [], _∷_}
-use Prim.Native.Nat.{ℕ, zero, suc, _+_, _≤_, _<_, _^_}
-use mathlib.Core.Logic.{_⊎_, inl, inr}
-use native.Mathlib.Nat.{eq-or-lt-of-le}
+use Prim.Native.Nat.{ℕ, _≤_, _<_, _^_}
 use native.Mathlib.Omega.{arith}
 use borrow.Author.Tests.{eq-eqb, ne-eqb, eqb-true}
 use lib.Dec.{T, eqb}
 use lib.Bits.{bitAnd, and-le-l}
+use Rattle.octets.proofs.Computed.{all-from, both-left, both-right, from-all, beq-eq}
 use Rattle.mask.specs.Fields.{announced, d32}
 use Rattle.mask.specs.Mask.{isIn, anySet, isGap, isDoubled}
 use Rattle.mask.proofs.Bit.{set-and, set-none}
 use Rattle.mask.proofs.Lowest.{none-zero}
-
--- f holds at each of the k numbers from n on
-abbrev pub all-from : (ℕ → Bool) → ℕ → ℕ → Bool
-all-from f zero n = true
-all-from f (suc k) n = f n && all-from f k (suc n)
 
 -- f holds at each number of a list
 abbrev pub all-in : (ℕ → Bool) → List ℕ → Bool
@@ -28,34 +22,6 @@ all-in f (x ∷ xs) = f x && all-in f xs
 -- the word announces just the fields at which f holds; for a list g, f is `λ n. isIn n g`
 abbrev pub stands-for : ℕ → (ℕ → Bool) → Bool
 stands-for w f = all-from (λ n. Bool·beq (announced w n) (f n)) 64 2
-
-both-left : (a b : Bool) → T (a && b) → T a
-both-left true b t = tt
-both-left false b t = t
-
-both-right : (a b : Bool) → T (a && b) → T b
-both-right true b t = t
-both-right false b t = absurd t
-
--- so it does at each of them
-pub from-all : (f : ℕ → Bool) (k n : ℕ) → T (all-from f k n) → (m : ℕ) → n ≤ m → m < n + k → T (f m)
-from-all f zero n t m lo hi = absurd (no lo hi)
-  where
-    no : n ≤ m → m < n + 0 → ⊥
-    no a b = omega arith
-from-all f (suc k) n t m lo hi =
-    go (eq-or-lt-of-le lo) (λ l. from-all f k (suc n) (both-right (f n) (all-from f k (suc n)) t) m l (omega arith))
-  where
-    go : (n ≡ m) ⊎ (n < m) → (n < m → T (f m)) → T (f m)
-    go (inl e) rest = subst (λ (x : ℕ). T (f x)) e (both-left (f n) (all-from f k (suc n)) t)
-    go (inr l) rest = rest l
-
--- equal by the test
-pub beq-eq : (a b : Bool) → T (Bool·beq a b) → a ≡ b
-beq-eq true true t = refl
-beq-eq true false t = absurd t
-beq-eq false true t = absurd t
-beq-eq false false t = refl
 
 is-true : (b : Bool) → T b → b ≡ true
 is-true true t = refl

@@ -1,12 +1,12 @@
 -- The laws of `pad`, `over` and of a table's fields that every layout needs: above all, what keeps the length.
 -- Assumes nothing.
 use mathlib.Core.Path.{_≡_, refl, sym, ap, _∙_}
-use mathlib.Core.List.{List, [], _∷_, _++_, append-nil}
+use mathlib.Core.List.{List, [], _∷_, _++_, append-nil, append-assoc}
 use Prim.Native.Nat.{ℕ, zero, suc, _+_, _-_, _≤_}
 use native.Mathlib.Nat.{le-refl, not-suc-le-zero, zero-add}
 use native.Mathlib.Omega.{arith}
-use lib.ListN.{length, replicate, take, drop, length-append, length-drop}
-use lib.Seq.{sets, sets-eq, take-length, length-take-le, take-at}
+use lib.ListN.{length, replicate, take, drop, length-append, length-drop, take-append-drop}
+use lib.Seq.{sets, sets-eq, take-length, length-take-le, take-at, take-append-le, drop-append-le}
 use Rattle.octets.specs.Layout.{pad, over, width, offset, field, replaced, zeroed, copied}
 
 -- a padded field has its width
@@ -71,6 +71,26 @@ module _ (first : ℕ) (ws : List ℕ) (n : ℕ) where
 
   pub length-copied : (a b : List ℕ) → offset first ws n + width first ws n ≤ length a → offset first ws n + width first ws n ≤ length b → length (copied first ws n a b) ≡ length b
   length-copied a b ha hb = length-replaced (field first ws n a) b (length-field a ha) hb
+
+  -- a field that lies within b goes by nothing that follows b
+  pub field-front : (b c : List ℕ) → offset first ws n + width first ws n ≤ length b → field first ws n (b ++ c) ≡ field first ws n b
+  unfolding field
+  field-front b c h =
+      let at : offset first ws n ≤ length b = omega arith in
+      let here : width first ws n ≤ length (drop (offset first ws n) b) = rw length-drop (omega arith) in
+      rw (drop-append-le (offset first ws n) b c at, take-append-le (width first ws n) (drop (offset first ws n) b) c here)
+
+  -- one that stands before another stays where that other is replaced
+  pub field-kept : (m : ℕ) (v b : List ℕ) → offset first ws n + width first ws n ≤ offset first ws m → offset first ws m ≤ length b
+      → field first ws n (replaced first ws m v b) ≡ field first ws n b
+  unfolding replaced
+  field-kept m v b h k =
+      let front = take (offset first ws m) b in
+      let within : offset first ws n + width first ws n ≤ length front = rw (length-take-le (offset first ws m) b k) h in
+      ap (field first ws n) (append-assoc front v _)
+      ∙ field-front front _ within
+      ∙ sym (field-front front (drop (offset first ws m) b) within)
+      ∙ ap (field first ws n) (take-append-drop (offset first ws m) b)
 
 -- bytes stored from the first place on are laid over what was there
 pub sets-over : (p o : List ℕ) → length p ≤ length o → sets o 0 p ≡ over p o

@@ -3,3 +3,4 @@ pub mod Signed
 pub mod Layouts
 pub mod ByteLists
 pub mod Parts
+pub mod Computed

@@ -5,7 +5,7 @@ use Rattle.octets.specs.Holds.{Holds}
 use Rattle.octets.specs.Octets.{be, bytes, twos, signed, signedBytes}
 use Rattle.octets.specs.Layout.{pad, over, total, field, value, signedValue, replaced}
 use Rattle.distinct.specs.Distinct.{isAmong, withoutRepeats}
-use Rattle.text.specs.Text.{isPrintable, isTextByte, all, textFault}
+use Rattle.text.specs.Text.{isLineByte, isTextByte, all, textFault}
 use Rattle.mask.specs.Fields.{announced, announcedLength, fullFields, announcedFields, dwellSize}
 use Rattle.mask.specs.Mask.{isRequired, isReserved, isIn, anySet, isGap, isGapIn, isDoubled, isFault, firstFrom, lowestFault, newInMask, isPlaced}
 use Rattle.position.specs.Position.{isLatitude, reduced, longitudeSum, nearest, rounded, latitudeMicro, fullCircle, longitudeMicro}
@@ -25,5 +25,5 @@ unfolding numbersPrinted digits decimal signedDecimal
 all-numbers = (refl, (refl, (refl, (refl, (refl, (refl, tt))))))
 
 pub all-results : Holds resultsPrinted
-unfolding resultsPrinted digits decimal signedDecimal spaced answerText answerLine targetLine recordLine targetLines printed be bytes twos signed signedBytes pad over total field value signedValue replaced isTextByte isPrintable all textFault isAmong withoutRepeats announced announcedLength fullFields announcedFields dwellSize isRequired isReserved isIn anySet isGap isGapIn isDoubled isFault firstFrom lowestFault newInMask isPlaced isLatitude reduced longitudeSum nearest rounded latitudeMicro fullCircle longitudeMicro isP1 version typeAt sizeAt bodyAt segmentBytes isKnown maskOf dwellFields targetCount targetsOf targetFields isSamePair areaOf latitude longitude isOlder shown mark isNewMode bodyLength recordOf headerRecord dwellRecord targetRecord targetRecords dwellRecords segmentRecords packetRecords recordBytes firstRow headerRows missionRows targetRows targetsRows dwellRows jobRows textRows keptRows bodyRows segmentRows parse pairsIn dwellsIn targetsIn parsed sheet readingAnswer list packet sample
+unfolding resultsPrinted digits decimal signedDecimal spaced answerText answerLine targetLine recordLine targetLines printed be bytes twos signed signedBytes pad over total field value signedValue replaced isTextByte isLineByte all textFault isAmong withoutRepeats announced announcedLength fullFields announcedFields dwellSize isRequired isReserved isIn anySet isGap isGapIn isDoubled isFault firstFrom lowestFault newInMask isPlaced isLatitude reduced longitudeSum nearest rounded latitudeMicro fullCircle longitudeMicro isP1 version typeAt sizeAt bodyAt segmentBytes isKnown maskOf dwellFields targetCount targetsOf targetFields isSamePair areaOf latitude longitude isOlder shown mark isNewMode bodyLength recordOf headerRecord dwellRecord targetRecord targetRecords dwellRecords segmentRecords packetRecords recordBytes firstRow headerRows missionRows targetRows targetsRows dwellRows jobRows textRows keptRows bodyRows segmentRows parse pairsIn dwellsIn targetsIn parsed sheet readingAnswer list packet sample
 all-results = (refl, (refl, tt))

@@ -5,7 +5,7 @@ use mathlib.Core.Path.{_≡_}
 use mathlib.Core.Bool.{_||_, Bool·beq}
 use Rattle.octets.specs.Octets.{between}
 use Rattle.mask.specs.Mask.{isIn}
-use Rattle.mask.proofs.Sets.{from-all, beq-eq}
+use Rattle.octets.proofs.Computed.{from-all, beq-eq}
 use Rattle.format.specs.Packet.{isKnown}
 
 -- the known types are 1 to 13, 101 and 102: computed for every byte

@@ -12,7 +12,7 @@ use lib.Seq.{drop-drop, length-take-le}
 use Rattle.octets.specs.Octets.{be}
 use Rattle.octets.specs.Layout.{total, value}
 use Rattle.mask.specs.Fields.{announcedLength, announcedFields, dwellWidths}
-use Rattle.mask.proofs.Sets.{from-all}
+use Rattle.octets.proofs.Computed.{from-all}
 use Rattle.mask.proofs.FullWidth.{length-announced}
 use Rattle.format.specs.Dwell.{targetLength}
 use Rattle.format.specs.Sheet.{bodyLengths, bodyLength}

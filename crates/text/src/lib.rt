@@ -1,45 +1,56 @@
-// Whether bytes are text, without a branch on the bytes, so that the loop is done 16 bytes at a time.
+// Whether bytes are text. A byte has a rank: at most a limit for the bytes of a set, above it for all others. A loop keeps the highest rank, by
+// differences and choices of numbers alone: with no branch on the bytes the compiler takes many of them at a time.
 ghost use mathlib.Core.Path.{_≡_};
-ghost use mathlib.Core.Bool.{cond};
-ghost use Rattle.text.specs.Text.{isPrintable, isTextByte, isText, isLine};
+ghost use Prim.Native.Nat.{max};
+ghost use lib.Dec.{leb};
+ghost use Rattle.text.specs.Text.{isLineByte, isTextByte, isLine, isText};
 
-fn is_text_byte(c: u8) -> bool
-    ensures { λ r. ⌜ r ≡ isTextByte c ⌝ }
+fn greater(a: u8, b: u8) -> u8
+    ensures { λ r. ⌜ r ≡ max a b ⌝ }
 {
-    32 <= c && c <= 126 || c == 10 || c == 12 || c == 13
+    if a < b { b } else { a }
 }
 
-// 0 for a byte of text, else 1.
-fn other(c: u8) -> u8
-    ensures { λ r. ⌜ r ≡ cond (isTextByte c) 0 1 ⌝ }
+// 0x20 to 0x7E have the ranks 0 to 94. A byte below 0x20 counts as 256 more, so that its rank is above 94 too.
+fn line_rank(c: u8) -> u8
+    ensures { λ r. ⌜ leb r 94 ≡ isLineByte c ⌝ }
 {
-    if is_text_byte(c) { 0 } else { 1 }
+    std::num::wrapping_sub_u8(c, 0x20)
 }
 
-pub fn is_text(s: &[u8]) -> bool
-    ensures { λ r. ⌜ r ≡ isText (now (s .entry)) ⌝ }
-{
-    let mut seen: u8 = 0;
-    for i in 0..s.len() {
-        seen = seen | other(s[i]);
-    }
-    seen == 0
-}
-
-// 0 for a printable byte, else 1.
-fn unprintable(c: u8) -> u8
-    ensures { λ r. ⌜ r ≡ cond (isPrintable c) 0 1 ⌝ }
-{
-    if octets::is_between(32, 126, c) { 0 } else { 1 }
-}
-
-// Text without the three control characters, which nearly all text is: a test of one range, and half as long.
+// Text on one line.
 pub fn is_line(s: &[u8]) -> bool
     ensures { λ r. ⌜ r ≡ isLine (now (s .entry)) ⌝ }
 {
-    let mut seen: u8 = 0;
+    let mut highest: u8 = 0;
     for i in 0..s.len() {
-        seen = seen | unprintable(s[i]);
+        highest = greater(highest, line_rank(s[i]));
     }
-    seen == 0
+    highest <= 94
+}
+
+// At most 2 for a byte of any text: 0 for 0x20 to 0x7C, 1 for 0x7D and 2 for 0x7E. With their lowest bit turned, 0x0A, 0x0D and 0x0C are 0x0B,
+// 0x0C and 0x0D, which from 0x0B on are 0, 1 and 2 again. Of the two ranks the lower counts.
+fn text_rank(c: u8) -> u8
+    ensures { λ r. ⌜ leb r 2 ≡ isTextByte c ⌝ }
+{
+    let above = std::num::wrapping_sub_u8(c, 0x20);
+    let printable = greater(above, 92) - 92;
+    let control = std::num::wrapping_sub_u8(c ^ 1, 0x0B);
+    if printable < control {
+        printable
+    } else {
+        control
+    }
+}
+
+// Any text.
+pub fn is_text(s: &[u8]) -> bool
+    ensures { λ r. ⌜ r ≡ isText (now (s .entry)) ⌝ }
+{
+    let mut highest: u8 = 0;
+    for i in 0..s.len() {
+        highest = greater(highest, text_rank(s[i]));
+    }
+    highest <= 2
 }

@@ -3,12 +3,13 @@ mod common;
 
 use common::held;
 use gmti::Answer;
+use std::collections::BTreeSet;
 use testing::cases;
 use testing::comparison::Comparison;
 use testing::generator::aimed;
 use testing::generator::faults::Fault;
 use testing::generator::spelling::{Packet, Segment};
-use testing::generator::tables::{bit, mask_of, ABSOLUTE, ALWAYS, ANGLES, BODY_TEXT, DELTAS, GROUPS, HEADER_TEXT, SINGLE};
+use testing::generator::tables::{bit, mask_of, TextSet, ABSOLUTE, ALWAYS, ANGLES, BODY_TEXT, DELTAS, GROUPS, HEADER_TEXT, SINGLE};
 use testing::generator::valid::{self, Style};
 use testing::generator::{damage, Random};
 
@@ -199,36 +200,92 @@ fn every_value_of_a_byte() {
     }
 }
 
-/// Every byte in each text field of the header and of the segments, first and last.
+/// Whether a byte may stand in a name, by request A3.
+fn is_of_names(byte: u8) -> bool {
+    (0x20..=0x7E).contains(&byte)
+}
+
+/// Whether it may stand in F3.
+fn is_of_f3(byte: u8) -> bool {
+    is_of_names(byte) || [0x0A, 0x0C, 0x0D].contains(&byte)
+}
+
+/// Every byte at every place of the header's text fields.
 #[test]
-fn every_byte_of_text() {
+fn every_byte_of_header_text() {
     let mut comparison = Comparison::new(109);
     let random = &mut Random::new(109);
     comparison.begin("text", 0);
-    let style = Style { version: 3, new: false };
-    for value in 0..=255 {
-        let is_text = (0x20..=0x7E).contains(&value) || [0x0A, 0x0C, 0x0D].contains(&value);
-        for (field, first, last) in HEADER_TEXT {
-            for at in [first, last - 1] {
-                let mut header = valid::header(random, 1);
+    let places = HEADER_TEXT.into_iter().flat_map(|field| field.place(32).map(move |at| (field.number, at)));
+    for (field, at) in places {
+        for value in 0..=255 {
+            let due = if is_of_names(value) { Answer::accepted(0, 0, 0, 33) } else { Answer::refused(5, 0, field) };
+            for (version, edition) in [(1, 1), (1, 3), (3, 1), (3, 3)] {
+                let mut header = valid::header(random, version);
                 header[at] = value;
-                let answer = held(comparison.read(3, &Packet::new(header, vec![]).bytes(), 40));
-                assert_eq!(answer == Answer::refused(5, 0, field), !is_text, "{value} in P{field}");
+                let answer = held(comparison.read(edition, &Packet::new(header, vec![]).bytes(), 40));
+                assert_eq!(answer, due, "{value} at {at} in P{field}");
             }
         }
-        for (segment_type, field, first, last) in BODY_TEXT {
-            let mut segment = valid::segment_of(random, style, segment_type);
-            if segment_type == 6 {
-                segment.body.resize(60, b'.');
-            }
-            for at in [first, last.min(segment.body.len()) - 1] {
+    }
+}
+
+/// Every byte at every place of the text fields of segments.
+#[test]
+fn every_byte_of_body_text() {
+    let mut comparison = Comparison::new(113);
+    let random = &mut Random::new(113);
+    comparison.begin("text", 0);
+    let style = Style { version: 3, new: false };
+    for (segment_type, field) in BODY_TEXT {
+        let mut segment = valid::segment_of(random, style, segment_type);
+        if segment_type == 6 {
+            segment.body.resize(60, b'.');
+        }
+        for at in field.place(segment.body.len()) {
+            for value in 0..=255 {
                 let mut changed = segment.clone();
                 changed.body[at] = value;
+                let is_kept = if (segment_type, field.number) == (6, 3) { is_of_f3(value) } else { is_of_names(value) };
                 for answer in both(&mut comparison, valid::header(random, 3), changed) {
-                    assert_eq!(answer == Answer::refused(10, 1, field), !is_text, "{value} in field {field} of type {segment_type}");
+                    let due = if is_kept { answer.is_accepted() } else { answer == Answer::refused(10, 1, field.number) };
+                    assert!(due, "{answer} for {value} at {at} of type {segment_type}");
                 }
             }
         }
+    }
+}
+
+/// Bytes at the ends of both sets at every place of F3, of every length up to 70, which is three pieces.
+#[test]
+fn every_length_of_free_text() {
+    let mut comparison = Comparison::new(114);
+    let random = &mut Random::new(114);
+    comparison.begin("text", 0);
+    for length in 1..=70 {
+        let body = [valid::text(random, TextSet::Name, 20), valid::text(random, TextSet::Lines, length)].concat();
+        for at in 20..body.len() {
+            for value in [0x09, 0x0A, 0x0B, 0x0C, 0x0D, 0x0E, 0x1F, 0x20, 0x7E, 0x7F, 0x80, 0xFF] {
+                let mut segment = Segment::new(6, body.clone());
+                segment.body[at] = value;
+                for answer in both(&mut comparison, valid::header(random, 3), segment) {
+                    let due = if is_of_f3(value) { answer.is_accepted() } else { answer == Answer::refused(10, 1, 3) };
+                    assert!(due, "{answer} for {value} at {at} of {length}");
+                }
+            }
+        }
+    }
+}
+
+/// What the generator takes for text is just the bytes of its set, and what spoils it all others.
+#[test]
+fn bytes_of_the_generator() {
+    let random = &mut Random::new(115);
+    for (set, is_of_set) in [(TextSet::Name, is_of_names as fn(u8) -> bool), (TextSet::Lines, is_of_f3)] {
+        let (inside, outside): (BTreeSet<u8>, BTreeSet<u8>) = (0..=255).partition(|byte| is_of_set(*byte));
+        assert!((0..=255).all(|byte| set.holds(byte) == is_of_set(byte)));
+        assert_eq!(valid::text(random, set, 20_000).into_iter().collect::<BTreeSet<_>>(), inside);
+        assert_eq!((0..20_000).map(|_| valid::not_text(random, set)).collect::<BTreeSet<_>>(), outside);
     }
 }
 

@@ -122,6 +122,15 @@ fn readme_shows_answer_and_positions_of_the_split_dwell() {
     }
 }
 
+/// damaged_platform_name.gmti is mission.gmti with a line feed for the space behind the name in P8.
+#[test]
+fn the_platform_name_is_damaged_by_one_byte() {
+    let mut packet = bytes_of("mission.gmti");
+    assert_eq!(packet[14..24], *b"LN-ICE    ");
+    packet[20] = b'\n';
+    assert_eq!(packet, bytes_of("damaged_platform_name.gmti"));
+}
+
 /// D27 with its mark and J26 with its mark, of a sheet whose second record is a dwell and whose last is a job.
 fn withheld_fields(edition: u32, file: &str) -> [u8; 5] {
     let (answer, sheet) = reading(gmti::read, edition, &bytes_of(file));

@@ -1,4 +1,4 @@
-//! The vector files of the repository's programs: both implementations give the answers that stand in them, and they are up to date.
+//! The vector files of the repository's programs: every implementation gives the answers that stand in them, and they are up to date.
 use std::fs;
 use std::path::{Path, PathBuf};
 use std::process::{Command, Output};
@@ -20,7 +20,7 @@ fn folder(name: &str) -> PathBuf {
 }
 
 #[test]
-fn both_implementations_give_the_answers() {
+fn every_implementation_gives_the_answers() {
     let output = vectors(&[Path::new("check"), &root()]);
     assert!(output.status.success(), "{}", String::from_utf8_lossy(&output.stderr));
 }

@@ -3,12 +3,13 @@ mod common;
 
 use common::held;
 use gmti::Answer;
+use std::ops::Range;
 use testing::cases;
 use testing::comparison::Comparison;
 use testing::generator::records::{join, patch_size, sheet_of, split, Record};
 use testing::generator::sheet_faults::SheetFault;
-use testing::generator::spelling::Packet;
-use testing::generator::tables::{mask_of, ALWAYS, DELTAS};
+use testing::generator::spelling::{Packet, Segment};
+use testing::generator::tables::{mask_of, names_on_sheets, TextSet, ALWAYS, DELTAS};
 use testing::generator::valid::{self, Style};
 use testing::generator::{sheets, Random};
 
@@ -103,6 +104,42 @@ fn every_bit_of_a_sheet() {
     assert!(comparison.tally.writer[0] > 100 && comparison.tally.writer[19] > 1000, "{}", comparison.tally);
 }
 
+/// The records of a sheet that has every name, and at its end two full pieces of F3.
+fn records_with_text(random: &mut Random) -> Vec<Record> {
+    let free_text = Segment::new(6, valid::text(random, TextSet::Name, 20 + 64));
+    let segments = vec![valid::mission(random), valid::job_with(random, 1), free_text];
+    let packet = Packet::new(valid::header(random, 3), segments).bytes();
+    split(&sheet_of(3, &packet).expect("the packet is valid"))
+}
+
+/// With any byte at these places of a record the sheet is written if the set holds the byte, and else refused.
+fn assert_takes(comparison: &mut Comparison, records: &[Record], record: usize, places: Range<usize>, set: TextSet) {
+    for at in places {
+        for value in 0..=255 {
+            let mut changed = records.to_vec();
+            changed[record].body[at] = value;
+            let answer = held(comparison.write(&join(&changed), 300));
+            let due = if set.holds(value) { answer.is_accepted() } else { answer == Answer::refused(19, 0, 0) };
+            assert!(due, "{answer} for {value} at {at} of kind {}", records[record].kind);
+        }
+    }
+}
+
+/// Every byte at every place of text: no sheet with a line end in a name is written, one with line ends in F3 is.
+#[test]
+fn every_byte_of_text() {
+    let mut comparison = Comparison::new(209);
+    comparison.begin("text", 0);
+    let records = records_with_text(&mut Random::new(209));
+    for (kind, name) in names_on_sheets() {
+        let at = records.iter().position(|record| record.kind == kind).expect("the sheet has every name");
+        assert_takes(&mut comparison, &records, at, name.place(usize::MAX), TextSet::Name);
+    }
+    for at in [records.len() - 2, records.len() - 1] {
+        assert_takes(&mut comparison, &records, at, 1..33, TextSet::Lines);
+    }
+}
+
 /// A sheet of so many test records, and an opaque one of so many bytes.
 fn long_sheet(tests: usize, opaque: usize) -> Vec<u8> {
     let mut records = vec![Record::new(1, valid::header(&mut Random::new(206), 3).to_vec())];
@@ -172,7 +209,7 @@ fn lengths_near_the_end_of_a_number() {
     for kind in [5, 7] {
         for pieces in 0..4 {
             for length in (0..70).map(|less| u32::MAX - less).chain([1 << 31, 1 << 24, 1 << 16, u32::MAX / 2]) {
-                let mut body = if kind == 5 { valid::text(random, 20) } else { vec![4] };
+                let mut body = if kind == 5 { valid::text(random, TextSet::Name, 20) } else { vec![4] };
                 body.extend(length.to_be_bytes());
                 let mut records = vec![Record::new(1, valid::header(random, 3).to_vec()), Record::new(kind, body)];
                 records.extend(vec![Record::piece(&[b'a'; 32]); pieces]);

@@ -29,7 +29,7 @@ past-9 c = rw (eq-eqb (s2 (now (c .before .before .args .b))) 73 (omega arith))
 -- nor does row 10
 past-10 : (c : tie.Else2) → from 0 (c .before .before .before .before .before) ≡ from 2 (c .before .before .before .before .before)
 unfolding firstRow jobRows textFault field total
-past-10 c = past-9 (c .before .before .before) ∙ rw (sym (c .before .is-text .ensures) ∙ not-false _ (c .if2 .left))
+past-10 c = past-9 (c .before .before .before) ∙ rw (sym (c .before .is-line .ensures) ∙ not-false _ (c .if2 .left))
 
 returns : tie.Need-returns
 unfolding firstRow jobRows
@@ -37,7 +37,7 @@ returns c = rw (ne-eqb (s2 (now (c .before .before .args .b))) 73 (λ e. c .if1 
 
 returns-2 : tie.Need-returns-2
 unfolding firstRow jobRows textFault field total
-returns-2 c = sym (past-9 (c .before .before .before) ∙ rw (sym (c .before .is-text .ensures) ∙ not-true _ (c .if2 .taken)))
+returns-2 c = sym (past-9 (c .before .before .before) ∙ rw (sym (c .before .is-line .ensures) ∙ not-true _ (c .if2 .taken)))
 
 returns-3 : tie.Need-returns-3
 unfolding firstRow jobRows value total

@@ -3,7 +3,7 @@
 use Prim.Native.Nat.{_-_, _≤_}
 use native.Mathlib.Omega.{arith}
 use mathlib.Core.Path.{_≡_, refl, sym, ap, ap₂, _∙_}
-use mathlib.Core.Bool.{Bool, true, false, cond}
+use mathlib.Core.Bool.{Bool, true, false, _&&_, cond}
 use mathlib.Core.List.{List}
 use Prim.Native.Nat.{ℕ}
 use denote.Ref.{now}
@@ -11,12 +11,18 @@ use lib.Bits.{bitOr}
 use lib.Dec.{eqb}
 use lib.ListN.{length, getD, take}
 use lib.Seq.{take-all}
-use Rattle.text.proofs.Bytes.{or-is}
 use Rattle.format.specs.Writer.{isSame}
 use Rattle.format.proofs.Sameness.{same-not, same-more}
 use borrow.Author.Needs.{needs}
 use Rattle.readback.proofs.same.Statement.{statement}
 use Rattle.readback.proofs.same.Tie as tie
+
+-- two tests, each 0 where it holds and else 1, gathered in a byte
+or-is : (b c : Bool) → bitOr (cond b 0 1) (cond c 0 1) ≡ cond (b && c) 0 1
+or-is true true = refl
+or-is true false = refl
+or-is false true = refl
+or-is false false = refl
 
 abbrev Inv-loop : tie.InvT-loop
 Inv-loop a b seen₀ i₀ i-end seen i = (i-end ≡ length a) × (length a ≡ length b) × (i ≤ length a) × (seen ≡ cond (isSame (take i a) (take i b)) 0 1)

@@ -19,12 +19,9 @@ pub fn header(packet: &[u8]) -> Result<u8, Fault> {
         return Err((4, 0));
     }
     // P3 and P5, with spaces for the other bytes, and P8 by two words that overlap.
-    let short = u64::from_le_bytes(bytes(header, 6)) & 0x0000_00FF_FF00_FFFF | 0x2020_2000_0020_0000;
-    let platform = [14, 16].map(|at| u64::from_le_bytes(bytes(header, at)));
-    if !(text::is_printable(short) & text::is_printable(platform[0]) & text::is_printable(platform[1])) {
-        if let Some(field) = text::first_fault(header, &[(3, 6, 8), (5, 9, 11), (8, 14, 24)]) {
-            return Err((5, field));
-        }
+    let short = text::word(header, 6) & 0x0000_00FF_FF00_FFFF | 0x2020_2000_0020_0000;
+    if !text::are_names([short, text::word(header, 14), text::word(header, 16)]) {
+        return Err((5, text::first_fault(header, &[(3, 6, 8), (5, 9, 11), (8, 14, 24)])));
     }
     Ok(header[0])
 }
@@ -97,11 +94,8 @@ fn mission(body: &[u8]) -> Result<u32, Fault> {
         return Err((9, 0));
     }
     // M1 and M2, and M4 by two words that overlap.
-    let words = [0, 8, 16, 25, 27].map(|at| u64::from_le_bytes(bytes(body, at)));
-    if !words.iter().all(|&word| text::is_printable(word)) {
-        if let Some(field) = text::first_fault(body, &[(1, 0, 12), (2, 12, 24), (4, 25, 35)]) {
-            return Err((10, field));
-        }
+    if !text::are_names([0, 8, 16, 25, 27].map(|at| text::word(body, at))) {
+        return Err((10, text::first_fault(body, &[(1, 0, 12), (2, 12, 24), (4, 25, 35)])));
     }
     if !(1..=12).contains(&body[37]) {
         return Err((13, 6));
@@ -123,7 +117,8 @@ fn job(reading: Reading, body: &[u8]) -> Result<u32, Fault> {
     if body.len() != 68 {
         return Err((9, 0));
     }
-    if !text::is_text(&body[5..11]) {
+    // J3, with spaces for the two bytes behind it.
+    if !text::are_names([text::word(body, 5) & 0x0000_FFFF_FFFF_FFFF | 0x2020_0000_0000_0000]) {
         return Err((10, 3));
     }
     if reading.withholds && body[45] < 128 && NEW_MODES >> body[45] & 1 != 0 {
@@ -136,9 +131,12 @@ fn free_text(body: &[u8]) -> Result<u32, Fault> {
     if body.len() < 20 {
         return Err((9, 0));
     }
-    if !text::is_text(body) {
-        let field = text::first_fault(body, &[(1, 0, 10), (2, 10, 20)]);
-        return Err((10, field.unwrap_or(3)));
+    // F1 and F2, by words of which the last two overlap.
+    if !text::are_names([0, 8, 12].map(|at| text::word(body, at))) {
+        return Err((10, text::first_fault(body, &[(1, 0, 10), (2, 10, 20)])));
+    }
+    if !text::is_free_text(body) {
+        return Err((10, 3));
     }
     Ok(25 + pieces(body.len() - 20))
 }

@@ -4,7 +4,7 @@ use super::faulty;
 use super::random::Random;
 use super::spelling::{patch_size, Packet, Segment};
 use super::tables::HEADER_TEXT;
-use super::valid::{self, not_text, Style};
+use super::valid::{self, Style};
 
 /// Number, segment and field of a refusal.
 pub type Refusal = (u32, u32, u32);
@@ -172,14 +172,10 @@ pub(super) fn spoil_version(random: &mut Random, header: &mut [u8]) {
     header[..2].copy_from_slice(&random.pick(p1));
 }
 
-/// A byte of a text field that may not stand there: the first, the last or any.
-pub(super) fn spoil_header_text(random: &mut Random, header: &mut [u8], field: u32) {
-    for (found, first, last) in HEADER_TEXT {
-        if found == field {
-            let any = first + random.below(last - first);
-            let at = random.pick([first, last - 1, any]);
-            header[at] = not_text(random);
-        }
+/// A byte of a text field that may not stand there.
+fn spoil_header_text(random: &mut Random, header: &mut [u8], number: u32) {
+    for field in HEADER_TEXT.into_iter().filter(|field| field.number == number) {
+        faulty::spoil_text(random, header, field);
     }
 }
 

@@ -43,7 +43,7 @@ fn change(random: &mut Random, bytes: &mut [u8]) {
         let any = random.byte();
         let at = random.below(bytes.len());
         if let Some(byte) = bytes.get_mut(at) {
-            *byte = random.pick([0, 1, 2, 3, 13, 32, 0x7F, 0x80, 255, any, any]);
+            *byte = random.pick([0, 1, 2, 3, 10, 13, 32, 0x7F, 0x80, 255, any, any]);
         }
     }
 }

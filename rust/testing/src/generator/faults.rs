@@ -164,10 +164,10 @@ impl Fault {
     /// Every fault.
     pub fn all() -> Vec<Fault> {
         let mut all = vec![Fault::Short, Fault::Long, Fault::Version, Fault::PacketSize];
-        all.extend(HEADER_TEXT.map(|(field, ..)| Fault::HeaderText(field)));
+        all.extend(HEADER_TEXT.map(|field| Fault::HeaderText(field.number)));
         all.extend([Fault::Left, Fault::UnknownType, Fault::SizeBelow, Fault::SizePast, Fault::NewType]);
         all.extend([1, 2, 5, 6, 10, 13].map(Fault::BodySize));
-        all.extend(BODY_TEXT.map(|(segment_type, field, ..)| Fault::Text(segment_type, field)));
+        all.extend(BODY_TEXT.map(|(segment_type, field)| Fault::Text(segment_type, field.number)));
         all.extend(Fault::of_masks());
         all.extend([28, 29, 30].map(Fault::NewAngles));
         all.extend([Fault::NewField, Fault::DwellSize, Fault::Month, Fault::Day, Fault::D4, Fault::NoPair]);

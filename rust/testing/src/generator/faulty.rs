@@ -5,7 +5,7 @@ use super::spelling::{Dwell, Segment};
 use super::tables::{
     bit, fixed_body, mask_of, ALWAYS, ANGLES, BODY_TEXT, DELTAS, GROUPS, J14_PLACE, LAST_FIELD, M6_PLACE, M7_PLACE, NEW_MODES,
 };
-use super::tables::{ABSOLUTE, OPAQUE_TYPES, OWN_TYPES};
+use super::tables::{TextField, TextSet, ABSOLUTE, OPAQUE_TYPES, OWN_TYPES};
 use super::valid::{self, not_text, Pair, Style};
 
 /// A segment with these faults, and the faults in the order in which they are looked at. An S2 past the end is left to the packet.
@@ -51,11 +51,11 @@ fn plain(random: &mut Random, style: Style, segment_type: u8, faults: &[Fault]) 
         _ => valid::segment_of(random, style, segment_type),
     };
     if faults.contains(&Fault::Text(6, 3)) && segment.body.len() == 20 {
-        segment.body.extend(valid::text(random, 33));
+        segment.body.extend(valid::text(random, TextSet::Lines, 33));
     }
     for fault in faults {
         match fault {
-            Fault::Text(_, field) => spoil_text(random, &mut segment, *field),
+            Fault::Text(_, field) => spoil_body_text(random, &mut segment, *field),
             Fault::Month => segment.body[M6_PLACE] = random.pick([0, 13, 14, 0x81, 255]),
             Fault::Day => segment.body[M7_PLACE] = random.pick([0, 32, 33, 0x81, 255]),
             Fault::NewMode => segment.body[J14_PLACE] = random.pick(NEW_MODES),
@@ -75,15 +75,20 @@ fn placed(faults: &[Fault], targets: &[(Fault, usize)]) -> Vec<Placed> {
     inside.map(|fault| (fault.place(target_of(*fault)), *fault)).collect()
 }
 
-/// A byte of a text field that may not stand there: the first, the last or any.
-fn spoil_text(random: &mut Random, segment: &mut Segment, field: u32) {
-    for (segment_type, found, first, last) in BODY_TEXT {
-        let last = last.min(segment.body.len());
-        if segment_type == segment.segment_type && found == field && first < last {
-            let any = first + random.below(last - first);
-            let at = random.pick([first, last - 1, any]);
-            segment.body[at] = not_text(random);
-        }
+/// A byte of a text field that may not stand there.
+fn spoil_body_text(random: &mut Random, segment: &mut Segment, number: u32) {
+    for (_, field) in BODY_TEXT.into_iter().filter(|(found, field)| *found == segment.segment_type && field.number == number) {
+        spoil_text(random, &mut segment.body, field);
+    }
+}
+
+/// A byte of a text field of a header or a body that may not stand there: the first, the last or any. An empty F3 stays empty.
+pub(super) fn spoil_text(random: &mut Random, bytes: &mut [u8], field: TextField) {
+    let place = field.place(bytes.len());
+    if !place.is_empty() {
+        let any = place.start + random.below(place.len());
+        let at = random.pick([place.start, place.end - 1, any]);
+        bytes[at] = not_text(random, field.set);
     }
 }
 

@@ -45,9 +45,9 @@ pub enum SheetFault {
     Version,
     /// Row 19: P2 not the length.
     PacketSize,
-    /// Row 19: text of the header.
+    /// Row 19: a name of the header.
     HeaderText,
-    /// Row 19: text of a mission, a job definition or a free text.
+    /// Row 19: a name of a mission, a job definition or a free text.
     Text,
     /// Row 19: text in a piece.
     PieceText,

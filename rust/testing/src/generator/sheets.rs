@@ -1,13 +1,13 @@
 //! Sheets of valid packets, and sheets with faults in them.
-use super::aimed::{spoil_header_text, spoil_packet_size, spoil_version};
+use super::aimed::{spoil_packet_size, spoil_version};
 use super::damage;
 use super::faults::Fault;
-use super::faulty::{faulty_mask, unknown_type};
+use super::faulty::{self, faulty_mask, unknown_type};
 use super::random::Random;
 use super::records::{join, patch_size, sheet_of, spelt_length, split, Record};
 use super::sheet_faults::SheetFault;
 use super::spelling::Packet;
-use super::tables::{bit, mask_of, width, ABSOLUTE, BODY_TEXT, D5_PLACE, DELTAS, HEADER_TEXT, OWN_TYPES};
+use super::tables::{bit, mask_of, names_on_sheets, width, TextSet, ABSOLUTE, D5_PLACE, DELTAS, OWN_TYPES};
 use super::valid::{self, not_text, Pair, Style};
 
 /// A sheet, and the row that must refuse it given a long buffer: 0 where it is written.
@@ -196,15 +196,12 @@ fn spoil_count(random: &mut Random, records: &mut [Record]) {
 fn spoil_sheet(random: &mut Random, records: &mut Vec<Record>, fault: SheetFault) {
     match fault {
         SheetFault::Version => spoil_version(random, &mut records[0].body),
-        SheetFault::HeaderText => {
-            let field = random.pick(HEADER_TEXT).0;
-            spoil_header_text(random, &mut records[0].body, field);
-        }
+        SheetFault::HeaderText | SheetFault::Text => spoil_name(random, records, fault),
         SheetFault::PacketSize => {
             let length = spelt_length(records) as u32;
             spoil_packet_size(random, &mut records[0].body, length);
         }
-        SheetFault::Text | SheetFault::PieceText => spoil_text(random, records, fault),
+        SheetFault::PieceText => spoil_piece(random, records),
         SheetFault::OpaqueType => spoil_type(random, records),
         SheetFault::TooLong => lengthen(random, records),
         SheetFault::Older => {}
@@ -270,25 +267,23 @@ fn spoil_absent(random: &mut Random, body: &mut [u8], mask: u64, fields: std::op
     }
 }
 
-/// Text in a record that has it, or in a piece of a free text.
-fn spoil_text(random: &mut Random, records: &mut [Record], fault: SheetFault) {
-    if fault == SheetFault::PieceText {
-        let found = find(random, records, |at, record| record.kind == 6 && at > 0 && records[at - 1].kind == 5);
-        if let Some(at) = found {
-            let count = usize::from(records[at].body[0]);
-            let place = random.pick([1, count]);
-            records[at].body[place] = not_text(random);
-        }
-        return;
-    }
-    let (kind, first, last) = match random.pick(BODY_TEXT) {
-        (1, _, first, last) => (2, first, last),
-        (5, _, first, last) => (8, first, last),
-        (_, _, first, last) => (5, first % 20, last.min(20)),
-    };
+/// A name in the header's record, or in another that has one.
+fn spoil_name(random: &mut Random, records: &mut [Record], fault: SheetFault) {
+    let is_of_header = fault == SheetFault::HeaderText;
+    let names: Vec<_> = names_on_sheets().into_iter().filter(|(kind, _)| (*kind == 1) == is_of_header).collect();
+    let Some((kind, name)) = random.one_of(&names) else { return };
     if let Some(at) = find_kind(random, records, kind) {
-        let place = random.pick([first, last - 1]);
-        records[at].body[place] = not_text(random);
+        faulty::spoil_text(random, &mut records[at].body, name);
+    }
+}
+
+/// The first or the last byte of a piece of F3, which may hold line ends.
+fn spoil_piece(random: &mut Random, records: &mut [Record]) {
+    let found = find(random, records, |at, record| record.kind == 6 && at > 0 && records[at - 1].kind == 5);
+    if let Some(at) = found {
+        let count = usize::from(records[at].body[0]);
+        let place = random.pick([1, count]);
+        records[at].body[place] = not_text(random, TextSet::Lines);
     }
 }
 

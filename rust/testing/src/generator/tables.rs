@@ -55,12 +55,75 @@ pub const OWN_TYPES: [u8; 6] = [1, 2, 5, 6, 10, 13];
 /// Values of J14 that are new in Edition 3.
 pub const NEW_MODES: [u8; 16] = [91, 92, 93, 96, 97, 101, 102, 103, 104, 111, 112, 113, 120, 121, 122, 123];
 
-/// Text fields of a packet's header: field, first byte, byte after the last.
-pub const HEADER_TEXT: [(u32, usize, usize); 3] = [(3, 6, 8), (5, 9, 11), (8, 14, 24)];
+/// 0x0A, 0x0C and 0x0D: what ends a line or a page.
+pub const LINE_ENDS: [u8; 3] = [0x0A, 0x0C, 0x0D];
 
-/// Text fields of the bodies of segments: type, field, first byte, byte after the last. F3 goes on to the end of the body.
-pub const BODY_TEXT: [(u8, u32, usize, usize); 7] =
-    [(1, 1, 0, 12), (1, 2, 12, 24), (1, 4, 25, 35), (5, 3, 5, 11), (6, 1, 0, 10), (6, 2, 10, 20), (6, 3, 20, usize::MAX)];
+/// The bytes that text may hold.
+#[derive(Clone, Copy, Debug, PartialEq, Eq)]
+pub enum TextSet {
+    /// 0x20 to 0x7E, which the standards call BCS-A: a name stands on one line.
+    Name,
+    /// Those and [`LINE_ENDS`], which the standards call BCS.
+    Lines,
+}
+
+impl TextSet {
+    /// Whether a byte may stand in such text.
+    pub fn holds(self, byte: u8) -> bool {
+        matches!(byte, 0x20..=0x7E) || self == TextSet::Lines && LINE_ENDS.contains(&byte)
+    }
+}
+
+/// A text field: its number, its first byte, the byte after its last, and what it may hold.
+#[derive(Clone, Copy, Debug)]
+pub struct TextField {
+    /// The number by which a refusal names it.
+    pub number: u32,
+    first: usize,
+    end: usize,
+    /// The bytes that it may hold.
+    pub set: TextSet,
+}
+
+impl TextField {
+    /// Where it stands in a header or a body of so many bytes.
+    pub fn place(self, length: usize) -> std::ops::Range<usize> {
+        self.first..self.end.min(length)
+    }
+}
+
+const fn name(number: u32, first: usize, end: usize) -> TextField {
+    TextField { number, first, end, set: TextSet::Name }
+}
+
+/// F3, which goes on to the end of the body.
+const F3: TextField = TextField { number: 3, first: 20, end: usize::MAX, set: TextSet::Lines };
+
+/// The text fields of a packet's header.
+pub const HEADER_TEXT: [TextField; 3] = [name(3, 6, 8), name(5, 9, 11), name(8, 14, 24)];
+
+/// Those of the bodies of segments, each with the type.
+pub const BODY_TEXT: [(u8, TextField); 7] = [
+    (1, name(1, 0, 12)),
+    (1, name(2, 12, 24)),
+    (1, name(4, 25, 35)),
+    (5, name(3, 5, 11)),
+    (6, name(1, 0, 10)),
+    (6, name(2, 10, 20)),
+    (6, F3),
+];
+
+/// The names on a sheet, each with the kind of its record, in whose body it stands where it stands in the header or the segment.
+pub fn names_on_sheets() -> Vec<(u8, TextField)> {
+    let kind = |segment_type: u8| match segment_type {
+        1 => 2,
+        5 => 8,
+        _ => 5,
+    };
+    let of_header = HEADER_TEXT.into_iter().map(|name| (1, name));
+    let of_bodies = BODY_TEXT.into_iter().filter(|(_, field)| field.set == TextSet::Name);
+    of_header.chain(of_bodies.map(|(segment_type, name)| (kind(segment_type), name))).collect()
+}
 
 /// Lengths of the bodies of records by kind; there is no kind 0.
 pub const RECORD_LENGTHS: [usize; 11] = [0, 32, 39, 87, 44, 24, 33, 5, 69, 14, 23];
@@ -108,11 +171,6 @@ pub fn width(field: u32) -> usize {
 /// How many bytes the announced fields take, of those from the first to the last.
 pub fn announced_width(mask: u64, first: u32, last: u32) -> usize {
     (first..=last).filter(|field| mask & bit(*field) != 0).map(width).sum()
-}
-
-/// Whether a byte may stand in text.
-pub fn is_text(byte: u8) -> bool {
-    matches!(byte, 0x20..=0x7E | 0x0A | 0x0C | 0x0D)
 }
 
 /// The body length of a type that has just one.

@@ -2,8 +2,8 @@
 use super::pairs;
 use super::random::Random;
 use super::spelling::{Dwell, Packet, Segment, Target};
-use super::tables::{bit, is_text, mask_of, width, ABSOLUTE, ALWAYS, ANGLES, DELTAS, GROUPS, HEADER_TEXT, LAST_FIELD, NEW_MODES};
-use super::tables::{OPAQUE_TYPES, SINGLE};
+use super::tables::{bit, mask_of, width, TextField, TextSet, ABSOLUTE, ALWAYS, ANGLES, BODY_TEXT, DELTAS, GROUPS, HEADER_TEXT};
+use super::tables::{J14_PLACE, LAST_FIELD, LINE_ENDS, M6_PLACE, M7_PLACE, NEW_MODES, OPAQUE_TYPES, SINGLE};
 
 /// What the segments of a packet may hold.
 #[derive(Clone, Copy, Debug)]
@@ -74,8 +74,8 @@ pub fn packet_by_pairs(random: &mut Random, pairs: &[u32]) -> Packet {
 pub fn longest(targets: u32) -> Packet {
     let mut header = [0; 32];
     header[..2].copy_from_slice(b"30");
-    for (_, first, last) in HEADER_TEXT {
-        header[first..last].fill(b' ');
+    for field in HEADER_TEXT {
+        header[field.place(32)].fill(b' ');
     }
     let mut values = [0; 32];
     values[5] = targets;
@@ -91,19 +91,19 @@ pub fn header(random: &mut Random, version: u8) -> [u8; 32] {
     }
     header[0] = b'0' + version;
     header[1] = b'0' + random.below(10) as u8;
-    for (first, last) in [(6, 8), (9, 11), (14, 24)] {
-        header[first..last].copy_from_slice(&text(random, last - first));
+    for field in HEADER_TEXT {
+        set_text(random, &mut header, field);
     }
     header
 }
 
 /// So many bytes of text.
-pub fn text(random: &mut Random, count: usize) -> Vec<u8> {
+pub fn text(random: &mut Random, set: TextSet, count: usize) -> Vec<u8> {
     (0..count)
         .map(|_| {
             let any = 0x20 + random.below(95) as u8;
             let rare = random.pick([0x0A, 0x0C, 0x0D, 0x20, 0x7E]);
-            if random.chance(15) {
+            if set.holds(rare) && random.chance(15) {
                 rare
             } else {
                 any
@@ -112,10 +112,19 @@ pub fn text(random: &mut Random, count: usize) -> Vec<u8> {
         .collect()
 }
 
-/// A byte that may not stand in text.
-pub fn not_text(random: &mut Random) -> u8 {
-    let any = random.byte();
-    if is_text(any) {
+/// Text in a field of a header or a body.
+fn set_text(random: &mut Random, bytes: &mut [u8], field: TextField) {
+    let place = field.place(bytes.len());
+    let text = text(random, field.set, place.len());
+    bytes[place].copy_from_slice(&text);
+}
+
+/// A byte that may not stand in such text. For a name it is a line end, which F3 may hold, in a third of the cases.
+pub fn not_text(random: &mut Random, set: TextSet) -> u8 {
+    let (any, line_end) = (random.byte(), random.pick(LINE_ENDS));
+    if !set.holds(line_end) && random.below(3) == 0 {
+        line_end
+    } else if set.holds(any) {
         random.pick([0x00, 0x09, 0x0B, 0x0E, 0x1F, 0x7F, 0x80, 0xFF])
     } else {
         any
@@ -148,15 +157,20 @@ pub fn segment_of(random: &mut Random, style: Style, segment_type: u8) -> Segmen
     }
 }
 
+/// A segment of this type and body, with text in its text fields.
+fn with_text(random: &mut Random, segment_type: u8, mut body: Vec<u8>) -> Segment {
+    for (_, field) in BODY_TEXT.into_iter().filter(|(found, _)| *found == segment_type) {
+        set_text(random, &mut body, field);
+    }
+    Segment::new(segment_type, body)
+}
+
 /// A mission with any month and day.
 pub fn mission(random: &mut Random) -> Segment {
-    let mut body = text(random, 24);
-    body.push(random.byte());
-    body.extend(text(random, 10));
-    body.extend(random.bytes(2));
-    body.push(random.between(1, 12) as u8);
-    body.push(random.between(1, 31) as u8);
-    Segment::new(1, body)
+    let mut body = random.bytes(39);
+    body[M6_PLACE] = random.between(1, 12) as u8;
+    body[M7_PLACE] = random.between(1, 31) as u8;
+    with_text(random, 1, body)
 }
 
 /// A job definition; J14 is new only where the style takes that.
@@ -173,18 +187,15 @@ pub fn job(random: &mut Random, style: Style) -> Segment {
 
 /// A job definition with this J14.
 pub fn job_with(random: &mut Random, mode: u8) -> Segment {
-    let mut body = random.bytes(5);
-    body.extend(text(random, 6));
-    body.extend(random.bytes(34));
-    body.push(mode);
-    body.extend(random.bytes(22));
-    Segment::new(5, body)
+    let mut body = random.bytes(68);
+    body[J14_PLACE] = mode;
+    with_text(random, 5, body)
 }
 
 /// A free text, with F3 from nothing to several pieces.
 pub fn free_text(random: &mut Random) -> Segment {
     let length = 20 + body_length(random);
-    Segment::new(6, text(random, length))
+    with_text(random, 6, vec![0; length])
 }
 
 /// An opaque segment; type 3 only where the style takes it.

@@ -38,7 +38,7 @@ pub fn longest_packet(k: usize) -> Vec<u8> {
         match field.number {
             1 => packet.extend(b"30"),
             2 => packet.extend((length as u32).to_be_bytes()),
-            _ => packet.extend(vec![if field.is_text { b' ' } else { 0 }; field.width]),
+            _ => packet.extend(vec![if field.text.is_some() { b' ' } else { 0 }; field.width]),
         }
     }
     packet.push(segment_type::DWELL);

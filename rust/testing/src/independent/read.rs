@@ -79,13 +79,15 @@ fn check_header(edition: u32, packet: &[u8]) -> Result<Reading, Fault> {
     Ok(Reading { is_version_1: version == b'1', is_older: edition == 1 && version == b'3' })
 }
 
-/// The first text field that holds another byte than text may.
+/// The first text field that holds a byte outside its set.
 fn text_at_fault(fields: &[Field], bytes: &[u8]) -> Option<u32> {
     let mut rest = bytes;
     for field in fields {
         let (value, after) = rest.split_at(field.width.min(rest.len()));
-        if field.is_text && !value.iter().all(|byte| is_text(*byte)) {
-            return Some(field.number);
+        if let Some(set) = field.text {
+            if !value.iter().all(|byte| set.holds(*byte)) {
+                return Some(field.number);
+            }
         }
         rest = after;
     }

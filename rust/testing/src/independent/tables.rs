@@ -1,4 +1,4 @@
-//! Names, widths and ranges, in the order of the document.
+//! Names, widths, text sets and ranges, in the order of the document.
 
 /// A packet has 32 to 65,536 bytes ("Packet and segments").
 pub const PACKET_LEAST: usize = 32;
@@ -7,36 +7,70 @@ pub const PACKET_MOST: usize = 65_536;
 /// Type (1) and size S2 (4) in front of each segment's body.
 pub const SEGMENT_HEADER: usize = 5;
 
-/// One field: its number, its width in bytes and whether it is text.
+/// The bytes that a text field may hold. Both sets are the standards' own
+/// (documents 000 and 003, table A1-1).
+#[derive(Clone, Copy)]
+pub enum TextSet {
+    /// The standards' BCS-A, for every text field but F3: nothing in it breaks a
+    /// line of the groups' tables (request A3).
+    OneLine,
+    /// The standards' BCS, for F3: line feed, form feed and carriage return too.
+    ManyLines,
+}
+
+impl TextSet {
+    pub fn holds(self, byte: u8) -> bool {
+        match self {
+            TextSet::OneLine => matches!(byte, 0x20..=0x7E),
+            TextSet::ManyLines => matches!(byte, 0x20..=0x7E | 0x0A | 0x0C | 0x0D),
+        }
+    }
+}
+
+/// One field: its number, its width in bytes and, where it is text, its set.
 pub struct Field {
     pub number: u32,
     pub width: usize,
-    pub is_text: bool,
+    pub text: Option<TextSet>,
 }
 
 const fn plain(number: u32, width: usize) -> Field {
-    Field { number, width, is_text: false }
+    Field { number, width, text: None }
 }
 
-const fn text(number: u32, width: usize) -> Field {
-    Field { number, width, is_text: true }
+const fn one_line(number: u32, width: usize) -> Field {
+    Field { number, width, text: Some(TextSet::OneLine) }
+}
+
+const fn many_lines(number: u32, width: usize) -> Field {
+    Field { number, width, text: Some(TextSet::ManyLines) }
 }
 
 /// The width of F3, which takes whatever the body has left.
 pub const THE_REST: usize = usize::MAX;
 
 /// P1 to P10.
-pub const HEADER: [Field; 10] =
-    [plain(1, 2), plain(2, 4), text(3, 2), plain(4, 1), text(5, 2), plain(6, 2), plain(7, 1), text(8, 10), plain(9, 4), plain(10, 4)];
+pub const HEADER: [Field; 10] = [
+    plain(1, 2),
+    plain(2, 4),
+    one_line(3, 2),
+    plain(4, 1),
+    one_line(5, 2),
+    plain(6, 2),
+    plain(7, 1),
+    one_line(8, 10),
+    plain(9, 4),
+    plain(10, 4),
+];
 
 /// M1 to M7.
-pub const MISSION: [Field; 7] = [text(1, 12), text(2, 12), plain(3, 1), text(4, 10), plain(5, 2), plain(6, 1), plain(7, 1)];
+pub const MISSION: [Field; 7] = [one_line(1, 12), one_line(2, 12), plain(3, 1), one_line(4, 10), plain(5, 2), plain(6, 1), plain(7, 1)];
 
 /// J1 to J28.
 pub const JOB: [Field; 28] = [
     plain(1, 4),
     plain(2, 1),
-    text(3, 6),
+    one_line(3, 6),
     plain(4, 1),
     plain(5, 1),
     plain(6, 4),
@@ -65,7 +99,7 @@ pub const JOB: [Field; 28] = [
 ];
 
 /// F1 to F3.
-pub const FREE_TEXT: [Field; 3] = [text(1, 10), text(2, 10), text(3, THE_REST)];
+pub const FREE_TEXT: [Field; 3] = [one_line(1, 10), one_line(2, 10), many_lines(3, THE_REST)];
 
 /// Widths of D2 to D31 ("Dwell and mask").
 pub const DWELL_FIELDS: [usize; 30] = [
@@ -120,11 +154,6 @@ pub const FREE_TEXT_FIXED: usize = place(&FREE_TEXT, 3);
 /// ("Edition 1 reading of a version 3 packet").
 pub fn is_new_radar_mode(mode: u8) -> bool {
     matches!(mode, 91..=93 | 96 | 97 | 101..=104 | 111..=113 | 120..=123)
-}
-
-/// Text holds only these bytes.
-pub fn is_text(byte: u8) -> bool {
-    matches!(byte, 0x20..=0x7E | 0x0A | 0x0C | 0x0D)
 }
 
 /// The kinds of the sheet's records ("The sheet").

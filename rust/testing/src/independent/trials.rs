@@ -1,6 +1,6 @@
 //! The document's trials, one packet or sheet for each row, round trips, the
-//! dwell counts of request A1, and the agreement of the two readings of version
-//! 3 packets.
+//! dwell counts of request A1, the text sets of request A3, and the agreement of
+//! the two readings of version 3 packets.
 
 use super::positions::{LatitudeSteps, LongitudeSteps};
 use super::tables::{is_new_radar_mode, DWELL_FIELDS, TARGET_FIELDS};
@@ -231,12 +231,12 @@ fn rows_of_call_and_header() {
     wrong[5] += 1;
     assert_read(3, &wrong, (4, 0, 0));
     for (at, field) in [(7, 3), (9, 5), (14, 8), (23, 8)] {
-        for byte in [0x1F, 0x7F, 0x0B, 0x09, 0x80] {
+        for byte in [0x1F, 0x7F, 0x0A, 0x0C, 0x0D, 0x0B, 0x09, 0x80] {
             let mut wrong = good.clone();
             wrong[at] = byte;
             assert_read(1, &wrong, (5, 0, field));
         }
-        for byte in [0x20, 0x7E, 0x0A, 0x0C, 0x0D] {
+        for byte in [0x20, 0x7E] {
             let mut right = good.clone();
             right[at] = byte;
             assert_round_trip(&right);
@@ -551,6 +551,200 @@ fn dwells_among_other_segments() {
     assert_eq!(printed(&packet("30", &[split.clone(), split.clone()])), "ok 2 1 2 299\n0 0\n0 0");
     // A refusal goes on naming the segment, not the dwell.
     assert_read(3, &packet("30", &[split.clone(), split, mission(0, 1)]), (13, 3, 6));
+}
+
+/// A text field of the packet `texts`: where it starts there and on the sheet,
+/// its width, and the refusal that names it.
+struct Text {
+    in_packet: usize,
+    on_sheet: usize,
+    width: usize,
+    refusal: (u32, u32, u32),
+}
+
+const fn text(in_packet: usize, on_sheet: usize, width: usize, refusal: (u32, u32, u32)) -> Text {
+    Text { in_packet, on_sheet, width, refusal }
+}
+
+/// The text fields other than F3.
+const NAMES: [Text; 9] = [
+    text(6, 7, 2, (5, 0, 3)),       // P3
+    text(9, 10, 2, (5, 0, 5)),      // P5
+    text(14, 15, 10, (5, 0, 8)),    // P8
+    text(37, 34, 12, (10, 1, 1)),   // M1
+    text(49, 46, 12, (10, 1, 2)),   // M2
+    text(62, 59, 10, (10, 1, 4)),   // M4
+    text(86, 79, 6, (10, 2, 3)),    // J3
+    text(154, 144, 10, (10, 3, 1)), // F1
+    text(164, 154, 10, (10, 3, 2)), // F2
+];
+const F3: Text = text(174, 170, 9, (10, 3, 3));
+
+/// A mission, a job definition and free text whose F3 is one piece.
+fn texts(version: &str) -> Vec<u8> {
+    packet(version, &[mission(12, 31), job(90), free_text(b"free text")])
+}
+
+/// Bytes at the edges of the two sets: whether a name may hold each, and F3.
+const EDGES: [(u8, bool, bool); 9] = [
+    (0x0A, false, true),
+    (0x0C, false, true),
+    (0x0D, false, true),
+    (0x1F, false, false),
+    (0x20, true, true),
+    (0x7E, true, true),
+    (0x7F, false, false),
+    (0x80, false, false),
+    (0xFF, false, false),
+];
+
+fn with_byte(bytes: &[u8], at: usize, byte: u8) -> Vec<u8> {
+    let mut changed = bytes.to_vec();
+    changed[at] = byte;
+    changed
+}
+
+/// `byte` in the first, middle and last place of a field. Where the field may
+/// hold it, both readings accept it and the writer gives it back; else both
+/// name the field, and a sheet with that byte is not written.
+fn assert_text(version: &str, field: &Text, byte: u8, may_hold: bool) {
+    let good = texts(version);
+    let sheet = sheet_of(3, &good).1;
+    for at in [0, field.width / 2, field.width - 1] {
+        let bytes = with_byte(&good, field.in_packet + at, byte);
+        let changed = with_byte(&sheet, field.on_sheet + at, byte);
+        if may_hold {
+            assert_eq!(assert_round_trip(&bytes).1, changed);
+            assert!(sheet_of(1, &bytes).0.is_accepted());
+        } else {
+            assert_read(1, &bytes, field.refusal);
+            assert_read(3, &bytes, field.refusal);
+            assert_write(&changed, 200, 19);
+        }
+    }
+}
+
+/// Request A3: "Text in fields other than F3 now holds only 0x20 to 0x7E. F3
+/// keeps the wider set."
+#[test]
+fn text_sets() {
+    for version in ["10", "30"] {
+        for (byte, in_name, in_f3) in EDGES {
+            for name in &NAMES {
+                assert_text(version, name, byte, in_name);
+            }
+            assert_text(version, &F3, byte, in_f3);
+        }
+    }
+}
+
+/// Of all bytes, those from 0x20 to 0x7E are 95; F3 has three more.
+#[test]
+fn sizes_of_text_sets() {
+    let good = texts("30");
+    let taken = |field: &Text| {
+        let with = |byte| with_byte(&good, field.in_packet, byte);
+        (0..=255).filter(|byte| read(3, &with(*byte), &mut [0; 300]).is_accepted()).count()
+    };
+    for name in &NAMES {
+        assert_eq!(taken(name), 95);
+    }
+    assert_eq!(taken(&F3), 98);
+}
+
+/// Request A3: "A sheet with a line feed in a name can no longer be written."
+#[test]
+fn sheets_with_a_line_feed() {
+    let sheet = sheet_of(3, &texts("30")).1;
+    for name in &NAMES {
+        // Row 19 comes before row 20, so also where the packet is too short.
+        for length in [0, 200, 70_000] {
+            assert_write(&with_byte(&sheet, name.on_sheet, 0x0A), length, 19);
+        }
+    }
+    let mut back = vec![0; 200];
+    let answer = write(&with_byte(&sheet, F3.on_sheet, 0x0A), &mut back);
+    assert_eq!(answer, Answer::accepted(3, 0, 0, 183));
+    assert_eq!(back[..183], with_byte(&texts("30"), F3.in_packet, 0x0A));
+}
+
+#[test]
+fn free_text_over_many_lines() {
+    for at in 0..70 {
+        for byte in [0x0A, 0x0C, 0x0D] {
+            let one = with_byte(&[b'x'; 70], at, byte);
+            assert_round_trip(&packet("30", &[free_text(&one)]));
+        }
+        let wrong = with_byte(&[b'\n'; 70], at, 0x0B);
+        assert_read(3, &packet("30", &[free_text(&wrong)]), (10, 1, 3));
+    }
+    assert_round_trip(&packet("10", &[free_text(b"\r\n\x0C")]));
+}
+
+/// Fields that are not text hold line feeds as any other byte.
+#[test]
+fn line_feeds_outside_text() {
+    let mut mission = [0x0A; 39];
+    mission[..24].fill(b'm');
+    mission[25..35].fill(b'm');
+    let mut job = [0x0A; 68];
+    job[5..11].fill(b'j');
+    let mut bytes = packet("30", &[segment(1, &mission), segment(5, &job)]);
+    // P4, P6, P7, P9 and P10.
+    for at in [8, 11, 12, 13].into_iter().chain(24..32) {
+        bytes[at] = 0x0A;
+    }
+    assert_round_trip(&bytes);
+    for (kept_as_bytes, length) in [(10, 14), (13, 23), (4, 40)] {
+        assert_round_trip(&packet("30", &[segment(kept_as_bytes, &vec![0x0A; length])]));
+    }
+}
+
+#[test]
+fn first_text_at_fault() {
+    let at = |bytes: &[u8], expected| {
+        assert_read(1, bytes, expected);
+        assert_read(3, bytes, expected);
+    };
+    // A line feed in F2 comes before a worse byte in F3.
+    at(&packet("30", &[segment(6, b"originatorrecipient\nf\x01")]), (10, 1, 2));
+    at(&packet("30", &[segment(6, b"originatorrecipient!\n\x01")]), (10, 1, 3));
+    // Of any two names, the one that comes first, whichever holds the line feed.
+    let good = texts("30");
+    for (index, first) in NAMES.iter().enumerate() {
+        for second in NAMES[index + 1..].iter().chain([&F3]) {
+            for bytes in [[0x0A, 0x01], [0x01, 0x0A], [0x0A, 0x0A]] {
+                let one = with_byte(&good, first.in_packet, bytes[0]);
+                at(&with_byte(&one, second.in_packet, bytes[1]), first.refusal);
+            }
+        }
+    }
+}
+
+/// Request A3: "Numbers 5 and 10 are given in their old places."
+#[test]
+fn rows_around_a_line_feed() {
+    // Rows 3 and 4 come before row 5, rows 6 on after it.
+    let header = |bytes: Vec<u8>| with_byte(&bytes, 14, 0x0A);
+    assert_read(3, &header(packet("20", &[])), (3, 0, 0));
+    assert_read(3, &header(with_byte(&packet("30", &[]), 5, 33)), (4, 0, 0));
+    for segment in [vec![1], segment(14, &[]), segment(3, &[]), segment(1, &[])] {
+        assert_read(1, &header(packet("30", &[segment])), (5, 0, 8));
+    }
+    // Row 9 comes before row 10, rows 13 and 15 after it.
+    let named = |segment: Vec<u8>, at: usize| packet("30", &[with_byte(&segment, 5 + at, 0x0A)]);
+    assert_read(3, &named(segment(1, &[b' '; 38]), 0), (9, 1, 0));
+    assert_read(3, &named(segment(5, &[b' '; 69]), 5), (9, 1, 0));
+    assert_read(3, &named(segment(6, &[b' '; 19]), 0), (9, 1, 0));
+    assert_read(3, &named(mission(13, 32), 34), (10, 1, 4));
+    assert_read(1, &named(job(91), 5), (10, 1, 3));
+    // The first segment at fault is named, by whichever row.
+    let line_feed = with_byte(&mission(1, 1), 5, 0x0A);
+    assert_read(3, &packet("30", &[mission(0, 1), line_feed.clone()]), (13, 1, 6));
+    assert_read(3, &packet("30", &[line_feed, mission(0, 1)]), (10, 1, 1));
+    // A sheet too short comes last.
+    let bytes = header(packet("30", &[]));
+    assert_eq!(read(3, &bytes, &mut []), Answer::refused(5, 0, 8));
 }
 
 /// Demand 3: the Edition 1 reading of a version 3 packet that the Edition 3

@@ -19,14 +19,14 @@ pub fn mission_texts(t: &mut Trials) {
     t.read("text M1 second segment", 3, packet(3, &[dwell(""), mission().with(1, &[0xE9; 12])]), "no 10 2 1");
     let numbers = mission().with(3, 255).with(5, 0xFFFF);
     t.read("mission numbers unchecked", 3, packet(3, from_ref(&numbers)), "ok 1 0 0 73");
-    let kept = numbers.with(1, b"\n\x0C\r ~ABCDEFG").with(4, &[b' '; 10]);
-    t.read("text of mission kept signs", 1, packet(1, &[kept]), "ok 1 0 0 73");
+    let ends = numbers.with(1, b"\n\x0C\r ~ABCDEFG").with(4, &[b' '; 10]);
+    t.read("text line ends in M1", 1, packet(1, &[ends]), "no 10 1 1");
 }
 
 pub fn other_texts(t: &mut Trials) {
     t.read("text J3 first", 3, packet(3, &[job().with(3, b"\x0BADAR9")]), "no 10 1 3");
     t.read("text J3 last", 1, packet(1, &[job().with(3, b"RADAR\0")]), "no 10 1 3");
-    t.read("text J3 kept signs", 3, packet(3, &[job().with(3, b"\n\x0C\r ~0")]), "ok 1 0 0 103");
+    t.read("text line ends in J3", 3, packet(3, &[job().with(3, b"\n\x0C\r ~0")]), "no 10 1 3");
     let zeros = [&[0; 5][..], b"      ", &[0; 57]].concat();
     t.read("job numbers zero", 3, packet(3, &[segment(5, &zeros)]), "ok 1 0 0 103");
     let ones = [&[255; 5][..], b"~~~~~~", &[255; 57]].concat();

@@ -43,6 +43,7 @@ pub fn list() -> Editions {
     refused(&mut e);
     pairs(&mut e);
     long_sheets(&mut e);
+    line_ends(&mut e);
     e
 }
 
@@ -192,4 +193,12 @@ fn long_sheets(e: &mut Editions) {
         let name = format!("longest packet of {targets} targets");
         e.add(&name, longest::packet(targets), &format!("alike ok 1 1 {targets} {length}"));
     }
+}
+
+/// A line end in a name is refused, also before something new; both readings take one in F3.
+fn line_ends(e: &mut Editions) {
+    e.add("refused line feed in P8", header(3).with(8, b"STATION\n07").packet(&[segment(3, &[])]), "no 5 0 8");
+    e.add("refused line feed in J3", packet(3, &[job().with(3, b"RADAR\n").with(14, 91)]), "no 10 1 3");
+    e.add("line ends in F3", packet(3, &[text(b"a\r\nb\x0C"), job()]), "alike ok 2 0 0 162");
+    e.add("version 1 line ends in F3", packet(1, &[text(b"a\r\nb\x0C"), job()]), "alike ok 2 0 0 162");
 }

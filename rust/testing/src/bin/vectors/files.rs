@@ -112,3 +112,8 @@ pub fn answer_trial(by: Implementation, line: &str) -> String {
 pub fn answer_editions(by: Implementation, line: &str) -> String {
     named(line, |rest| Ok(verdict(by, &unhex(rest)?)))
 }
+
+/// Whether a line asks for the writer.
+pub fn is_writing(line: &str) -> bool {
+    line.split_once(": ").is_some_and(|(_, rest)| rest.starts_with("w "))
+}

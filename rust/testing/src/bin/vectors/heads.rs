@@ -71,8 +71,8 @@ pub fn header_texts(t: &mut Trials) {
         t.read_to(&format!("text {name}"), 3, header.packet(&[]), &format!("no 5 0 {field}"), lend);
     }
     t.read("text P3 old reading", 1, header(3).with(3, b"\0R").packet(&[]), "no 5 0 3");
-    let kept = header(3).with(3, b"\n\x0C").with(5, b"\r ").with(8, b"~ \n\x0C\r!}AZ0");
-    t.read("text kept signs", 3, kept.packet(&[]), "ok 0 0 0 33");
+    let ends = header(3).with(3, b"\n\x0C").with(5, b"\r ").with(8, b"~ \n\x0C\r!}AZ0");
+    t.read("text line ends in P3", 3, ends.packet(&[]), "no 5 0 3");
     let ones = header(3).with(4, 255).with(6, 0xFFFF).with(7, 255).with(9, 0xFFFF_FFFF).with(10, 0xFFFF_FFFF);
     t.read("header numbers unchecked", 3, ones.packet(&[]), "ok 0 0 0 33");
     let zeros = header(1).with(4, 0).with(6, 0).with(7, 0).with(9, 0).with(10, 0);

@@ -2,7 +2,7 @@
 //!
 //! `vectors ROOT` writes stdin and stdout (and args) of the programs in ROOT/crates. The answers are those of the independent
 //! implementation; beside each vector stands the answer that document 01 gives it, and unless all agree nothing is written.
-//! `vectors check ROOT` reads the vectors in ROOT/crates and holds both implementations to the answers that stand there.
+//! `vectors check ROOT` reads the vectors in ROOT/crates and holds every implementation to the answers that stand there.
 mod bodies;
 mod dwells;
 mod editions;
@@ -15,6 +15,7 @@ mod order;
 mod parts;
 mod positions;
 mod records;
+mod texts;
 mod trials;
 mod unwritten;
 mod verdict;
@@ -26,10 +27,10 @@ use std::process::ExitCode;
 use testing::generator::faults::Fault;
 use testing::tally::{Tally, LIKENESSES};
 use trials::Trials;
-use verdict::{Implementation, INDEPENDENT, VERIFIED};
+use verdict::{Implementation, BY_HAND, INDEPENDENT, VERIFIED};
 
 /// The readings, then the writings. Lists that came later stand behind these: how much is lent to a refusal goes by its place.
-const LISTS: [fn(&mut Trials); 59] = [
+const LISTS: [fn(&mut Trials); 65] = [
     heads::call,
     heads::versions,
     heads::packet_sizes,
@@ -89,6 +90,12 @@ const LISTS: [fn(&mut Trials); 59] = [
     dwells::other_types,
     written::other_types,
     longest::lent,
+    texts::every_field,
+    texts::older_reading,
+    texts::lengths,
+    texts::order,
+    texts::header_order,
+    texts::sheets,
 ];
 
 fn main() -> ExitCode {
@@ -166,7 +173,7 @@ fn untried(trials: &Trials) -> Vec<String> {
 /// What one implementation answers to a line.
 type Answering = fn(Implementation, &str) -> String;
 
-/// Holds both implementations to the answers that stand in the folder.
+/// Holds every implementation to the answers that stand in the folder, the reader by hand to those of packets.
 fn check(root: &Path) -> Vec<String> {
     let mut faults = Vec::new();
     for (name, answer) in [("gmti_trials", files::answer_trial as Answering), ("gmti_editions", files::answer_editions)] {
@@ -188,14 +195,16 @@ fn check_lines(name: &str, answer: Answering, given: &str, answers: &str) -> Vec
     if given.len() != answers.len() {
         faults.push(format!("{name}: stdin and stdout have different numbers of lines"));
     }
-    for by in [INDEPENDENT, VERIFIED] {
-        for (line, due) in given.iter().zip(&answers) {
+    for by in [INDEPENDENT, VERIFIED, BY_HAND] {
+        let of_it = |line: &str| by.has_writer || !files::is_writing(line);
+        let lines: Vec<_> = given.iter().zip(&answers).filter(|(line, _)| of_it(line)).collect();
+        for (line, due) in &lines {
             let found = answer(by, line);
-            if found != *due {
+            if found != **due {
                 faults.push(format!("{name}, {}: {found} where {due} is due", by.name));
             }
         }
-        println!("{name}: {} lines, {}", given.len(), by.name);
+        println!("{name}: {} lines, {}", lines.len(), by.name);
     }
     faults
 }

@@ -36,6 +36,12 @@ impl<const N: usize> Value for &[u8; N] {
     }
 }
 
+impl Value for &[u8] {
+    fn bytes(&self, _: usize) -> Vec<u8> {
+        self.to_vec()
+    }
+}
+
 /// Sets the field of a number in bytes that hold all fields of these widths.
 fn set(bytes: &mut [u8], widths: &[usize], field: u32, value: impl Value) {
     let index = field as usize - 1;

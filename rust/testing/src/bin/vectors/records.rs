@@ -13,12 +13,13 @@ pub fn sheet_behind(header: Header, records: &[Vec<u8>]) -> Vec<u8> {
     [&[1][..], &header, &records.concat()].concat()
 }
 
-/// The record of a mission, a dwell, a job definition, a test or a location.
+/// The record of a mission, a dwell, a job definition, a test or a location; that of a free text has its pieces behind it.
 pub fn record(part: &Part) -> Vec<u8> {
     let (kind, mut body) = match part.segment_type {
         1 => (2, part.body()),
         2 => (3, part.full_fields()),
         5 => (8, part.body()),
+        6 => (5, text_body(&part.body())),
         10 => (9, part.body()),
         _ => (10, part.body()),
     };
@@ -27,6 +28,12 @@ pub fn record(part: &Part) -> Vec<u8> {
     }
     body.insert(0, kind);
     body
+}
+
+/// F1 and F2, the length of F3, and its pieces.
+fn text_body(body: &[u8]) -> Vec<u8> {
+    let (names, f3) = body.split_at(20);
+    [names, &(f3.len() as i64).bytes(4), &pieces(f3)].concat()
 }
 
 /// A target's record. The announced fields have usual values unless they are given; others are zero unless they are given.

@@ -1,17 +1,20 @@
-//! What a run of demand 3 on a packet finds, by either implementation.
+//! What a run of demand 3 on a packet finds, by each implementation.
 use gmti::{Answer, LONGEST_SHEET};
-use testing::independent;
+use testing::{by_hand, independent};
 
-/// An implementation: its readings and its writer.
+/// An implementation: its readings and its writer, or another's where it has none.
 #[derive(Clone, Copy)]
 pub struct Implementation {
     pub name: &'static str,
     pub read: fn(u32, &[u8], &mut [u8]) -> Answer,
     pub write: fn(&[u8], &mut [u8]) -> Answer,
+    pub has_writer: bool,
 }
 
-pub const INDEPENDENT: Implementation = Implementation { name: "independent", read: independent::read, write: independent::write };
-pub const VERIFIED: Implementation = Implementation { name: "verified", read: gmti::read, write: gmti::write };
+pub const INDEPENDENT: Implementation =
+    Implementation { name: "independent", read: independent::read, write: independent::write, has_writer: true };
+pub const VERIFIED: Implementation = Implementation { name: "verified", read: gmti::read, write: gmti::write, has_writer: true };
+pub const BY_HAND: Implementation = Implementation { name: "by hand", read: by_hand::read, write: independent::write, has_writer: false };
 
 /// `alike` or `new` with the answer of the Edition 1 reading, or the refusal of the Edition 3 reading, or `broken`.
 pub fn verdict(by: Implementation, packet: &[u8]) -> String {
