@@ -3,16 +3,15 @@
 -- Assumes nothing.
 use Prim.Native.Nat.{ℕ, zero, suc, _+_, _≤_}
 use native.Mathlib.Omega.{arith}
-use mathlib.Core.Path.{_≡_, refl, sym, ap, ap₂, _∙_}
+use mathlib.Core.Path.{_≡_, refl, ap, ap₂, _∙_}
 use mathlib.Core.Bool.{Bool, true, false, _&&_, cond}
 use mathlib.Core.List.{List, [], _∷_, _++_, append-assoc}
 use borrow.Author.Tests.{eqb-true, eq-eqb}
 use lib.Dec.{eqb, lit≤}
-use lib.ListN.{length, take, drop, length-append, length-drop, take-append-drop}
-use lib.Seq.{length-take-le, drop-append-le, drop-at}
-use Rattle.octets.specs.Layout.{value, width, offset, total, replaced}
-use Rattle.octets.proofs.Laws.{be-front}
-use Rattle.octets.proofs.Layouts.{length-zeroed}
+use lib.ListN.{length, take, drop, length-append}
+use lib.Seq.{length-take-le, drop-at}
+use Rattle.octets.specs.Layout.{width, offset, total}
+use Rattle.octets.proofs.Layouts.{length-zeroed, field-front, field-kept, same-value}
 use Rattle.distinct.proofs.Laws.{same-members, none-twice}
 use Rattle.mask.specs.Fields.{dwellWidths}
 use Rattle.format.specs.declared.Reading.{Reading}
@@ -31,29 +30,6 @@ use Rattle.format.proofs.Dwells.{is-dwell}
 use Rattle.format.proofs.Segments.{AllSound}
 use Rattle.demands.specs.Counts.{pairsOn}
 use Rattle.demands.specs.Demands.{DifferentPairs}
-
--- ---- numbers in fields
-
-module _ (first : ℕ) (ws : List ℕ) (n : ℕ) where
-  -- a number that lies within b goes by nothing that follows b
-  value-front : (b c : List ℕ) → offset first ws n + width first ws n ≤ length b → value first ws n (b ++ c) ≡ value first ws n b
-  unfolding value
-  value-front b c h =
-      let at : offset first ws n ≤ length b = omega arith in
-      let here : width first ws n ≤ length (drop (offset first ws n) b) = rw length-drop (omega arith) in
-      rw (drop-append-le (offset first ws n) b c at) (be-front (width first ws n) (drop (offset first ws n) b) c here)
-
-  -- one that stands before a field stays where that field is replaced
-  value-kept : (m : ℕ) (v b : List ℕ) → offset first ws n + width first ws n ≤ offset first ws m → offset first ws m ≤ length b
-      → value first ws n (replaced first ws m v b) ≡ value first ws n b
-  unfolding replaced
-  value-kept m v b h k =
-      let front = take (offset first ws m) b in
-      let within : offset first ws n + width first ws n ≤ length front = rw (length-take-le (offset first ws m) b k) h in
-      ap (value first ws n) (append-assoc front v _)
-      ∙ value-front front _ within
-      ∙ sym (value-front front (drop (offset first ws m) b) within)
-      ∙ ap (value first ws n) (take-append-drop (offset first ws m) b)
 
 -- ---- a dwell's record
 
@@ -74,7 +50,7 @@ module _ (r : Reading) (b : List ℕ) where
   unfolding shown total
   shown-kept n h =
       let long : 69 ≤ length (dwellFields b) = omega (arith, length-dwell b) in
-      either (λ (f : List ℕ). D n f ≡ D n (dwellFields b)) (isOlder r) (value-kept 2 dwellWidths n 27 _ (dwellFields b) h long) refl
+      either (λ (f : List ℕ). D n f ≡ D n (dwellFields b)) (isOlder r) (same-value 2 dwellWidths n _ _ (field-kept 2 dwellWidths n 27 _ (dwellFields b) h long)) refl
 
   module _ (long : 8 ≤ length b) where
     -- behind the mask the record has what is shown, and the mark
@@ -92,7 +68,7 @@ module _ (r : Reading) (b : List ℕ) where
     unfolding total
     record-kept n h =
         let within : offset 2 dwellWidths n + width 2 dwellWidths n ≤ length shownFields = omega (arith, length-shown) in
-        ap (D n) shown-behind-mask ∙ value-front 2 dwellWidths n shownFields (mark r ∷ []) within ∙ shown-kept n h
+        ap (D n) shown-behind-mask ∙ same-value 2 dwellWidths n _ _ (field-front 2 dwellWidths n shownFields (mark r ∷ []) within) ∙ shown-kept n h
 
     -- above all D2 and D3
     record-pair : pairOf (drop 8 (dwellRecord r b .body)) ≡ pairOf (dwellFields b)

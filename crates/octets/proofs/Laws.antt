@@ -103,7 +103,7 @@ then us vs l at n ha hn hb =
     hb ∙ ap (λ (s : List ℕ). sets s (at + n) vs) ha ∙ ap (λ (m : ℕ). sets (sets l at us) (at + m) vs) (sym hn) ∙ sets-sets us vs l at
 
 -- a number goes by its own bytes alone
-same-be : (k : ℕ) (s t : List ℕ) → ((i : ℕ) → i < k → getD s i 0 ≡ getD t i 0) → be k s ≡ be k t
+pub same-be : (k : ℕ) (s t : List ℕ) → ((i : ℕ) → i < k → getD s i 0 ≡ getD t i 0) → be k s ≡ be k t
 unfolding be
 same-be zero s t h = refl
 same-be (suc k) s t h = ap₂ (λ (x y : ℕ). x * 256 + y) (same-be k s t (λ i l. h i (omega arith))) (h k (omega arith))

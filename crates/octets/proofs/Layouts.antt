@@ -6,8 +6,10 @@ use Prim.Native.Nat.{ℕ, zero, suc, _+_, _-_, _≤_}
 use native.Mathlib.Nat.{le-refl, not-suc-le-zero, zero-add}
 use native.Mathlib.Omega.{arith}
 use lib.ListN.{length, replicate, take, drop, length-append, length-drop, take-append-drop}
-use lib.Seq.{sets, sets-eq, take-length, length-take-le, take-at, take-append-le, drop-append-le}
-use Rattle.octets.specs.Layout.{pad, over, width, offset, field, replaced, zeroed, copied}
+use lib.Seq.{sets, sets-eq, take-length, length-take-le, take-at, take-append-le, drop-append-le, getD-take}
+use Rattle.octets.specs.Octets.{be}
+use Rattle.octets.specs.Layout.{pad, over, width, offset, field, value, replaced, zeroed, copied}
+use Rattle.octets.proofs.Laws.{same-be}
 
 -- a padded field has its width
 pub length-pad : (w : ℕ) (b : List ℕ) → length (pad w b) ≡ w
@@ -91,6 +93,14 @@ module _ (first : ℕ) (ws : List ℕ) (n : ℕ) where
       ∙ field-front front _ within
       ∙ sym (field-front front (drop (offset first ws m) b) within)
       ∙ ap (field first ws n) (take-append-drop (offset first ws m) b)
+
+  -- the number in a field is that of the field's bytes, so that where these are the same it is the same
+  value-is : (b : List ℕ) → be (width first ws n) (field first ws n b) ≡ value first ws n b
+  unfolding field value
+  value-is b = same-be (width first ws n) _ (drop (offset first ws n) b) (λ i l. getD-take (width first ws n) (drop (offset first ws n) b) i 0 l)
+
+  pub same-value : (a b : List ℕ) → field first ws n a ≡ field first ws n b → value first ws n a ≡ value first ws n b
+  same-value a b e = sym (value-is a) ∙ ap (be (width first ws n)) e ∙ value-is b
 
 -- bytes stored from the first place on are laid over what was there
 pub sets-over : (p o : List ℕ) → length p ≤ length o → sets o 0 p ≡ over p o
