@@ -42,7 +42,7 @@ void gmti_read(uint32_t edition, const uint8_t *packet, size_t packet_length, ui
                uint32_t answer[7]);
 
 /* Writes the packet that reads, as Edition 3, to just this sheet. An accepted sheet fills the first answer[GMTI_LENGTH] bytes of the
- * lent packet and leaves the rest as it was; a refused one leaves the whole packet as it was. It takes some 72 kB of stack. */
+ * lent packet and leaves the rest as it was; a refused one leaves the whole packet as it was. It takes some 73 kB of stack. */
 void gmti_write(const uint8_t *sheet, size_t sheet_length, uint8_t *packet, size_t packet_length, uint32_t answer[7]);
 
 /* How many bytes to lend for the sheet of a packet of packet_length bytes: lent so many, gmti_read does not refuse it with 16, whatever its

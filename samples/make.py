@@ -9,6 +9,7 @@ from pathlib import Path
 
 DWELL_WIDTHS = [2, 2, 1, 2, 4, 4, 4, 4, 4, 4, 4, 4, 2, 2, 4, 1, 1, 2, 2, 2, 2, 2, 4, 4, 2, 2, 2, 2, 2, 1]  # D2 to D31
 TARGET_WIDTHS = [2, 4, 4, 2, 2, 2, 2, 2, 1, 1, 1, 2, 2, 1, 2, 1, 4, 1]  # D32.1 to D32.18
+HRR_WIDTHS = [2, 2, 1, 2, 2, 2, 2, 1, 1, 2, 2, 4, 4, 4, 1, 1, 1, 2, 1, 2, 4, 1, 1, 1, 1, 1, 4, 1, 4, 4]  # H2 to H31
 CENTRE = (77.83, 16.50)  # of the dwells' area, in degrees north and east
 SCATTER = random.Random(4607)
 
@@ -120,12 +121,28 @@ def plain_segments():
     return mission, free_text, status, location, segment(12, history)
 
 
+def hrr(fields, scatterers):
+    """An HRR segment as Edition 3 lays it out: the fields by the n of Hn, the scatterers by the j of H32.j."""
+    body = number(sum(1 << 41 - n for n in fields) + sum(1 << 10 - j for j in scatterers[0]), 5)
+    body += b"".join(number(fields[n], HRR_WIDTHS[n - 2]) for n in sorted(fields))
+    widths = {1: fields[25], 2: fields[26], 3: 1, 4: 1}
+    for scatterer in scatterers:
+        body += b"".join(number(scatterer[j], widths[j]) for j in sorted(scatterer))
+    return segment(3, body)
+
+
 def range_profile():
-    """An HRR segment as Edition 3 lays it out: twelve samples of the target whose D32.1 is 0."""
-    fields = [(0xF6FBC78200, 5), (1, 2), (2, 2), (0, 1), (0, 2), (12, 2), (1, 2), (80, 1)]  # the mask H1, and H2 to H10
-    fields += [(30 * 128, 2), (25 * 128, 2), (5 << 16, 4), (2000 << 16, 4), (0, 1), (1, 1), (0, 1), (0, 2)]  # H11 to H19
-    fields += [(1, 1), (0, 1), (1, 1), (0, 1)] + [(int(200 * SCATTER.random()), 1) for _ in range(12)]  # H23 to H26, H32.1
-    return segment(3, b"".join(number(value, width) for value, width in fields))
+    """The fields of a profile of twelve samples in one Doppler bin, of the target whose D32.1 is 0: one byte each, no phase."""
+    dwell_and_report = {2: 1, 3: 2, 4: 0, 5: 0, 7: 12, 8: 1, 10: 80}
+    resolution = {11: 30 * 128, 12: 25 * 128, 13: 5 << 16, 14: 2000 << 16}
+    return {**dwell_and_report, **resolution, 16: 0, 17: 1, 18: 0, 19: 0, 23: 1, 24: 0, 25: 1, 26: 0}
+
+
+def sparse_chip(count):
+    """A sparse chip: each scatterer with a magnitude of two bytes, a phase of one, and the range and Doppler bins that it lies in."""
+    found = [{1: 40 * k, 2: int(256 * SCATTER.random()), 3: 3 + 2 * k, 4: 6 + k % 4} for k in range(count)]
+    fields = {n: value for n, value in range_profile().items() if n != 7}
+    return hrr({**fields, 3: 8, 6: count, 8: 16, 9: 160, 23: 3, 25: 2, 26: 1, 27: 24}, found)
 
 
 def samples():
@@ -144,7 +161,11 @@ def samples():
         "test_and_status": packet(b"30", status),
         "platform_location": packet(b"30", location),
         "opaque_processing_history": packet(b"30", history),
-        "new_range_profile": packet(b"30", dwell(place(2), targets(1, {1: 0})), range_profile()),
+    }
+    seen, profile = dwell(place(2), targets(1, {1: 0})), range_profile()
+    magnitudes = [{1: int(200 * SCATTER.random())} for _ in range(12)]
+    made |= {
+        "new_range_profile": packet(b"30", seen, hrr(profile, magnitudes)),
         "new_heading_alone": packet(b"30", dwell(place(3, {28: angle(90, 16)}), targets(2))),
         "new_cross_section": packet(b"30", dwell(place(4), targets(2, {18: 20}))),
         "new_radar_mode": packet(b"30", mission, job(101)),
@@ -154,7 +175,11 @@ def samples():
         "damaged_platform_name": packet(b"30", mission, platform="LN-ICE\n"),
         "damaged_height": packet(b"30", dwell(place(5), bad)),
         "damaged_cut_short": packet(b"30", dwell(place(0), three))[:-10],
-        "split_dwell": packet(b"30", *split_dwell()),  # last, so that the others keep what they drew of SCATTER
+        "damaged_profile_mask": packet(b"30", seen, hrr({n: profile[n] for n in profile if n != 24}, magnitudes)),
+        "damaged_profile_count": packet(b"30", seen, hrr({**profile, 7: 13}, magnitudes)),
+        # What came later is last, so that the others keep what they drew of SCATTER.
+        "split_dwell": packet(b"30", *split_dwell()),
+        "new_profile_with_indices": packet(b"30", dwell(place(8), targets(1, {1: 0})), sparse_chip(6)),
     }
     names = ["dwell_every_field", "damaged_height", "new_cross_section", "version_1_dwell_and_job"]
     last = packet(b"30", dwell(place(6, {4: 1})), status, location, free_text)

@@ -1,6 +1,6 @@
 -- What the writer spells from bytes is bytes.
 -- Assumes nothing.
-use Prim.Native.Nat.{ℕ, zero, suc, _<_}
+use Prim.Native.Nat.{ℕ, zero, suc, _-_, _<_}
 use mathlib.Core.Bool.{Bool, true, false, cond, _&&_}
 use mathlib.Core.List.{List, [], _∷_, _++_}
 use lib.Dec.{ltb, leb, eqb, lit<}
@@ -8,6 +8,7 @@ use lib.ListN.{length, getD, take, drop}
 use Rattle.octets.specs.Octets.{be, bytes, Bytes}
 use Rattle.octets.proofs.ByteLists.{nil-bytes, cons-bytes, append-bytes, take-bytes, drop-bytes, number-bytes}
 use Rattle.mask.specs.Fields.{announcedFields, taken, dwellWidths, targetWidths, d32}
+use Rattle.hrr.specs.Hrr.{hrrMask, hrrWidths, scattererWidths, narrowed}
 use Rattle.format.specs.Packet.{Segment, s2, segmentBytes}
 use Rattle.format.specs.Sheet.{Record, bodyLength}
 use Rattle.format.proofs.Rows.{either}
@@ -21,6 +22,13 @@ unfolding announcedFields
 announced-bytes mask n [] full b = nil-bytes
 announced-bytes mask n (w ∷ ws) full b =
     append-bytes (take (taken mask n w) full) _ (take-bytes (taken mask n w) full b) (announced-bytes mask (suc n) ws (drop w full) (drop-bytes w full b))
+
+-- numbers of these widths, from bytes
+narrowed-bytes : (ws s : List ℕ) → Bytes s → Bytes (narrowed ws s)
+unfolding narrowed
+narrowed-bytes [] s b = nil-bytes
+narrowed-bytes (w ∷ ws) s b =
+    append-bytes (drop (2 - w) (take 2 s)) _ (drop-bytes (2 - w) (take 2 s) (take-bytes 2 s b)) (narrowed-bytes ws (drop 2 s) (drop-bytes 2 s b))
 
 -- the bodies of records are bytes
 abbrev RecordsBytes : List Record → Type 0
@@ -46,19 +54,22 @@ list-bytes (suc k) (kind ∷ x) b = go (ltb 0 (bodyLength kind) && leb (bodyLeng
 given-bytes : (r : Record) → Bytes (r .body) → Bytes (given r)
 unfolding given
 given-bytes r b =
-    let fields = announced-bytes (be 8 (r .body)) 2 dwellWidths (drop 8 (r .body)) (drop-bytes 8 (r .body) b) in
-    either Bytes (eqb (r .kind) 3) (append-bytes (take 8 (r .body)) _ (take-bytes 8 (r .body) b) fields)
+    let masked : (k mask : ℕ) (ws : List ℕ) → Bytes (take k (r .body) ++ announcedFields mask 2 ws (drop k (r .body))) =
+    λ k mask ws. append-bytes (take k (r .body)) _ (take-bytes k (r .body) b) (announced-bytes mask 2 ws (drop k (r .body)) (drop-bytes k (r .body) b)) in
+    either Bytes (eqb (r .kind) 3) (masked 8 (be 8 (r .body)) dwellWidths)
     (either Bytes (eqb (r .kind) 5) (take-bytes 20 (r .body) b)
     (either Bytes (eqb (r .kind) 7) nil-bytes
     (either Bytes (eqb (r .kind) 8) (take-bytes 68 (r .body) b)
-    b)))
+    (either Bytes (eqb (r .kind) 11) (masked 5 (hrrMask (r .body)) hrrWidths)
+    b))))
 
 -- what a follower gives
 behind-bytes : (leader r : Record) → Bytes (r .body) → Bytes (givenBehind leader r)
 unfolding givenBehind
 behind-bytes leader r b =
     either Bytes (eqb (r .kind) 4) (announced-bytes (be 8 (leader .body)) (d32 1) targetWidths (r .body) b)
-    (take-bytes (getD (r .body) 0 0) (drop 1 (r .body)) (drop-bytes 1 (r .body) b))
+    (either Bytes (eqb (r .kind) 12) (narrowed-bytes (scattererWidths (hrrMask (leader .body)) (drop 5 (leader .body))) (r .body) b)
+    (take-bytes (getD (r .body) 0 0) (drop 1 (r .body)) (drop-bytes 1 (r .body) b)))
 
 -- the type of the segment that a record begins
 type-byte : (r : Record) → Bytes (r .body) → typeOf r < 256
@@ -70,7 +81,8 @@ type-byte r b =
     (either IsByte (eqb (r .kind) 8) (lit< tt)
     (either IsByte (eqb (r .kind) 9) (lit< tt)
     (either IsByte (eqb (r .kind) 10) (lit< tt)
-    (b 0))))))
+    (either IsByte (eqb (r .kind) 11) (lit< tt)
+    (b 0)))))))
   where
     IsByte : ℕ → Type 0
     IsByte n = n < 256

@@ -3,8 +3,8 @@
 -- Assumes nothing.
 use Prim.Native.Nat.{ℕ, _≤_}
 use native.Mathlib.Omega.{arith}
-use mathlib.Core.Path.{_≡_, refl, sym, ap, _∙_}
-use mathlib.Core.Bool.{Bool, true, false, not, _&&_, cond, true≢false}
+use mathlib.Core.Path.{_≡_, refl, sym, ap}
+use mathlib.Core.Bool.{true, false, not, true≢false}
 use mathlib.Core.List.{List}
 use borrow.Author.Tests.{le-leb}
 use lib.Dec.{leb, eqb}
@@ -22,13 +22,13 @@ use Rattle.format.proofs.Rows.{both}
 use Rattle.format.proofs.Acceptance.{header-sized}
 use Rattle.format.proofs.Longest.{sheet-bounded}
 use Rattle.demands.specs.Demands.{SheetBound}
-use Rattle.demands.proofs.Numbers.{Proper, header-first-proper, parse-proper}
+use Rattle.demands.proofs.Numbers.{lastNumber, Proper, header-first-proper, parse-proper}
 use Rattle.demands.proofs.Written.{demand-2}
 
 -- a row that applies has another number than 16
 not-16 : (number field : ℕ) → Proper (Failed number field) → number ≡ 16 → ⊥
 unfolding Proper
-not-16 number field s e = let other : false ≡ true = rw e at (both (leb number 20) (not (eqb number 16)) (s .0) .1) in true≢false (sym other)
+not-16 number field s e = let other : false ≡ true = rw e at (both (leb number lastNumber) (not (eqb number 16)) (s .0) .1) in true≢false (sym other)
 
 -- for a length that a packet has, the bound is the formula
 pub bound-is : (n : ℕ) → 32 ≤ n → n ≤ 65536 → sheetBound n ≡ formula n

@@ -14,11 +14,10 @@ use Rattle.octets.specs.Octets.{be, bytes}
 use Rattle.octets.specs.Layout.{pad, total, value}
 use Rattle.octets.proofs.Laws.{be-bytes}
 use Rattle.format.specs.declared.Reading.{Reading}
-use Rattle.format.specs.declared.Area.{Area}
 use Rattle.format.specs.Packet.{Segment}
 use Rattle.format.specs.Dwell.{D, dwellFields, targetCount}
 use Rattle.format.specs.Edition.{isOlder}
-use Rattle.format.specs.Sheet.{Record, bodyLength, recordOf, dwellRecord, targetRecord, targetRecords, pieceRecord, pieceRecords, pieceCount, piecesOf, dwellRecords, textRecords, opaqueRecords, jobRecords, segmentRecords, packetRecords}
+use Rattle.format.specs.Sheet.{Record, bodyLength, recordOf, dwellRecord, pieceRecord, pieceRecords, pieceCount, piecesOf, dwellRecords, hrrRecord, hrrRecords, textRecords, opaqueRecords, jobRecords, segmentRecords, packetRecords}
 use Rattle.format.specs.Writer.{noHeader, due, calledFor, isComplete}
 use Rattle.format.proofs.Records.{by-type}
 use Rattle.format.proofs.Followers.{follows, begins, complete, none-left}
@@ -26,18 +25,19 @@ use Rattle.format.proofs.Segments.{Sound, AllSound, by-rows}
 use Rattle.octets.proofs.Laws.{be-front}
 use Rattle.format.proofs.Dwells.{is-dwell}
 use Rattle.format.proofs.Bodies.{text-length, length-dwell, dwell-exact, text-exact, opaque-exact}
+use Rattle.format.proofs.Hrr.{countIn, is-hrr, hrr-calls}
+use Rattle.demands.proofs.Runs.{Run, run-end, run-more, targets-run, scatterers-run, pieces-run}
 
 -- nothing is called for, and nothing lacks
 abbrev pub Complete : List Record → Type 0
 Complete rs = isComplete (due 0 0) rs ≡ true
 
--- so many targets are had where they are called for
-targets-complete : (mask : ℕ) (area : Area) (n : ℕ) (t : List ℕ) (rs : List Record) → Complete rs → isComplete (due 4 n) (targetRecords mask area n t ++ rs) ≡ true
-unfolding targetRecords targetRecord recordOf
-targets-complete mask area zero t rs c = none-left 4 rs c
-targets-complete mask area (suc n) t rs c =
-    let e : suc n - 1 ≡ n = omega arith in
-    complete (follows (omega arith) refl refl (rw e (targets-complete mask area n _ rs c)))
+-- so many targets or scatterers are had where they are called for
+run-complete : {kind n : ℕ} {qs : List Record} (rs : List Record) → eqb kind 6 ≡ false → Run kind n qs → Complete rs → isComplete (due kind n) (qs ++ rs) ≡ true
+run-complete {kind} rs h run-end c = none-left kind rs c
+run-complete {kind} rs h (run-more {n} e a) c =
+    let left : suc n - 1 ≡ n = omega arith in
+    complete (follows (omega arith) e (rw (e, h)) (rw (h, left) (run-complete rs h a c)))
 
 -- so are pieces of so many bytes
 pieces-from : (n : ℕ) (b : List ℕ) (rs : List Record) → length b ≤ n * 32 → n * 32 < length b + 32 → Complete rs
@@ -75,7 +75,13 @@ module _ (r : Reading) (s : Segment) (rs : List Record) (c : Complete rs) where
   dwell-complete : isOlder r ≡ false → 8 ≤ length (s .body) → Complete (dwellRecords r (s .body) ++ rs)
   unfolding dwellRecords calledFor
   dwell-complete o h =
-      rw (dwell-exact r (s .body) o h) (complete (begins refl refl (rw (dwell-calls (s .body) h) (targets-complete _ _ (targetCount (s .body)) _ rs c))))
+      rw (dwell-exact r (s .body) o h) (complete (begins refl refl (rw (dwell-calls (s .body) h) (run-complete rs refl (targets-run _ _ (targetCount (s .body)) _) c))))
+
+  -- an HRR segment with its scatterers
+  hrr-complete : 5 ≤ length (s .body) → Complete (hrrRecords (s .body) ++ rs)
+  unfolding hrrRecords hrrRecord recordOf
+  hrr-complete h =
+      complete (begins refl refl (rw (hrr-calls (s .body) h) (run-complete rs refl (scatterers-run _ (countIn (s .body)) _) c)))
 
   -- a text with its pieces
   text-complete : 20 ≤ length (s .body) → length (s .body) ≤ 65536 → Complete (textRecords (s .body) ++ rs)
@@ -100,6 +106,7 @@ module _ (r : Reading) (s : Segment) (rs : List Record) (c : Complete rs) where
       by-rows (λ (qs : List Record). Complete (qs ++ rs)) r s (w .rows)
       (λ t e. complete (begins refl refl c))
       (λ t e. dwell-complete o (omega (arith, is-dwell r (s .body) e .exact)))
+      (λ t e. hrr-complete (is-hrr (s .body) e .masked))
       (λ t e. complete (begins refl refl c))
       (λ t e. text-complete (text-length (s .body) e) (w .short))
       (λ t e. complete (begins refl refl c))
@@ -124,23 +131,25 @@ no-header-append (r ∷ rs) qs h k = go (eqb (r .kind) 1) h (no-header-append rs
     go true h i = h
     go false h i = i h k
 
--- targets
-targets-no-header : (mask : ℕ) (area : Area) (n : ℕ) (t : List ℕ) → noHeader (targetRecords mask area n t) ≡ true
-unfolding noHeader targetRecords targetRecord recordOf
-targets-no-header mask area zero t = refl
-targets-no-header mask area (suc n) t = targets-no-header mask area n _
-
--- pieces
-pieces-no-header : (n : ℕ) (b : List ℕ) → noHeader (pieceRecords n b) ≡ true
-unfolding noHeader pieceRecords pieceRecord recordOf
-pieces-no-header zero b = refl
-pieces-no-header (suc n) b = pieces-no-header n _
+-- records of another kind
+run-no-header : {kind n : ℕ} {qs : List Record} → eqb kind 1 ≡ false → Run kind n qs → noHeader qs ≡ true
+unfolding noHeader
+run-no-header h run-end = refl
+run-no-header h (run-more e a) = rw (e, h) (run-no-header h a)
 
 -- all the records of segments
 pub packet-no-header : (r : Reading) (ss : List Segment) → noHeader (packetRecords r ss) ≡ true
-unfolding packetRecords noHeader dwellRecords dwellRecord jobRecords textRecords opaqueRecords recordOf
+unfolding packetRecords noHeader dwellRecords dwellRecord hrrRecords hrrRecord jobRecords textRecords opaqueRecords recordOf
 packet-no-header r [] = refl
 packet-no-header r (s ∷ ss) =
     no-header-append (segmentRecords r s) (packetRecords r ss)
-    (by-type (λ (qs : List Record). noHeader qs ≡ true) r s refl (targets-no-header _ _ _ _) refl (pieces-no-header _ _) refl refl (pieces-no-header _ _))
+    (by-type (λ (qs : List Record). noHeader qs ≡ true) r s
+    refl
+    (run-no-header refl (targets-run _ _ _ _))
+    (run-no-header refl (scatterers-run _ _ _))
+    refl
+    (run-no-header refl (pieces-run _ _))
+    refl
+    refl
+    (run-no-header refl (pieces-run _ _)))
     (packet-no-header r ss)

@@ -72,7 +72,7 @@ module _ (l : List ℕ) (version-3 : version l ≡ 3) where
     -- then the records of the two sheets are alike
     sheets-alike : AllAlike (headerRecord l ∷ packetRecords (readingOf (asEdition 1) l) (parsed (asEdition 1) l .segments)) (headerRecord l ∷ packetRecords (readingOf (asEdition 3) l) (parsed (asEdition 3) l .segments))
     unfolding parsed
-    sheets-alike = rw same (next (header-alike l) (packet-alike (readingOf (asEdition 1) l) (readingOf (asEdition 3) l) older (newest l) (parsed (asEdition 3) l .segments) (parse-sound (readingOf (asEdition 3) l) (length (drop 32 l)) (drop 32 l) short)))
+    sheets-alike = rw same (next (header-alike l) (packet-alike (readingOf (asEdition 1) l) (readingOf (asEdition 3) l) older (newest l) refl (parsed (asEdition 3) l .segments) (parse-sound (readingOf (asEdition 3) l) (length (drop 32 l)) (drop 32 l) short)))
 
     -- so the sheets are as long
     sheets-length : length (sheet (asEdition 1) l) ≡ length (sheet (asEdition 3) l)

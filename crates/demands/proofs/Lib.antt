@@ -2,6 +2,7 @@ pub mod Trials
 pub mod Walk
 pub mod First
 pub mod Answered
+pub mod Runs
 pub mod Regroup
 pub mod Complete
 pub mod Pairs

@@ -1,7 +1,7 @@
 -- Every number of an answer fits 32 bits, whatever the edition, the bytes and the lent memory, so a caller in C has room for each. The
--- rows and the fields that a refusal names are those of document 01. A packet that gets past its header has at most 65,536 bytes, so it has
--- no more segments than that, and its sheet is no longer than the longest; the sheet has a record for each segment and target that an
--- acceptance counts, and there are no more dwells than segments.
+-- rows and the fields that a refusal names are those of document 01 and of request A4. A packet that gets past its header has at most
+-- 65,536 bytes, so it has no more segments than that, and its sheet is no longer than the longest; the sheet has a record for each segment
+-- and target that an acceptance counts, and there are no more dwells than segments.
 -- Assumes nothing.
 use Prim.Native.Nat.{ℕ, zero, suc, _+_, _^_, _≤_, _<_}
 use native.Mathlib.Omega.{arith}
@@ -25,10 +25,10 @@ use Rattle.format.specs.declared.Answer.{Answer}
 use Rattle.format.specs.declared.Answer.the-variants.{Accepted, Refused}
 use Rattle.format.specs.Packet.{headerWidths, headerTexts, Segment, typeAt, sizeAt, bodyAt, missionWidths, missionTexts, jobWidths, jobTexts, freeTextWidths, freeTextTexts}
 use Rattle.format.specs.Dwell.{maskOf, dwellFields, targetCount, targetsOf, targetLength, pairOf, isSamePair, areaOf}
-use Rattle.format.specs.Edition.{asEdition, isOlder}
+use Rattle.format.specs.Edition.{asEdition, isOlder, isHrr}
 use Rattle.format.specs.Sheet.{Record, bodyLength}
 use Rattle.format.specs.Answer.{numbersOf}
-use Rattle.format.specs.Rows.{Row, firstRow, headerRows, missionRows, targetRows, targetsRows, dwellRows, jobRows, textRows, keptRows, bodyRows, segmentRows}
+use Rattle.format.specs.Rows.{Row, firstRow, headerRows, missionRows, targetRows, targetsRows, dwellRows, hrrRows, jobRows, textRows, keptRows, bodyRows, segmentRows}
 use Rattle.format.specs.Reader.{Parsed, onward, parse, pairsIn, dwellsIn, targetsIn, readingOf, parsed, sheet, segmentsAnswer, readingAnswer, read}
 use Rattle.format.specs.Bound.{longestSheet}
 use Rattle.format.specs.Writer.{Listed, list, listed, spell, sheetRows, writerRows, writerAnswer, writingAnswer, write}
@@ -76,9 +76,13 @@ new-field mask =
 
 -- ---- the rows
 
--- a number of the table, whose last is 20, but for 16: that one is given at the end, and by no row of a list
+-- the last number of the table, with the rows of request A4
+abbrev pub lastNumber : ℕ
+lastNumber = 22
+
+-- a number of the table but for 16: that one is given at the end, and by no row of a list
 abbrev isRowNumber : ℕ → Bool
-isRowNumber n = leb n 20 && not (eqb n 16)
+isRowNumber n = leb n lastNumber && not (eqb n 16)
 
 -- where a row applies, it has such a number, and names a field
 unfoldable pub Proper : Check → Type 0
@@ -111,9 +115,9 @@ append-proper none k = k
 append-proper (more n f h) k = more n f (append-proper h k)
 
 -- its number is one of the table
-proper-number : (number field : ℕ) → Proper (Failed number field) → (number ≤ 20) × IsField field
+proper-number : (number field : ℕ) → Proper (Failed number field) → (number ≤ lastNumber) × IsField field
 unfolding Proper
-proper-number number field s = (leb-true number 20 (both (leb number 20) _ (s .0) .0), s .1)
+proper-number number field s = (leb-true number lastNumber (both (leb number lastNumber) _ (s .0) .0), s .1)
 
 -- the call and the header
 header-proper : (settings : Settings) (l : List ℕ) → AllProper (headerRows settings l)
@@ -146,6 +150,11 @@ dwell-proper r b =
     (more tt (either IsField (isOlder r) (new-field (maskOf b)) (lit≤ tt))
     (fixed tt tt (fixed tt tt (fixed tt tt (targets-proper (maskOf b) (areaOf (dwellFields b)) (targetCount b) (targetsOf b)))))))
 
+-- an HRR segment
+hrr-proper : (b : List ℕ) → AllProper (hrrRows b)
+unfolding hrrRows
+hrr-proper b = fixed tt tt (fixed tt tt (fixed tt tt none))
+
 -- a job definition
 job-proper : (r : Reading) (b : List ℕ) → AllProper (jobRows r b)
 unfolding jobRows
@@ -167,10 +176,11 @@ unfolding bodyRows
 body-proper r t b =
     either AllProper (eqb t 1) (mission-proper b)
     (either AllProper (eqb t 2) (dwell-proper r b)
+    (either AllProper (isHrr r t) (hrr-proper b)
     (either AllProper (eqb t 5) (job-proper r b)
     (either AllProper (eqb t 6) (text-proper b)
     (either AllProper (eqb t 10) (kept-proper 14 b)
-    (either AllProper (eqb t 13) (kept-proper 23 b) none)))))
+    (either AllProper (eqb t 13) (kept-proper 23 b) none))))))
 
 -- any segment
 segment-proper : (r : Reading) (l : List ℕ) → AllProper (segmentRows r l)
@@ -269,7 +279,7 @@ within-fits (one-more h k) zero = omega arith
 within-fits (one-more h k) (suc i) = within-fits k i
 
 -- a refusal
-refused-within : (number segment field : ℕ) → (number ≤ 20) × IsField field → segment ≤ longestSheet → AllWithin (numbersOf (Refused number segment field))
+refused-within : (number segment field : ℕ) → (number ≤ lastNumber) × IsField field → segment ≤ longestSheet → AllWithin (numbersOf (Refused number segment field))
 unfolding numbersOf
 refused-within number segment field h k =
     let n : number ≤ longestSheet = omega (arith, h .0) in

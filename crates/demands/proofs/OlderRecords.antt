@@ -1,6 +1,6 @@
 -- The records that the two readings make of the same segments are alike.
 -- Assumes nothing.
-use Prim.Native.Nat.{ℕ, zero, suc, _+_, _≤_}
+use Prim.Native.Nat.{ℕ, _+_, _≤_}
 use native.Mathlib.Omega.{arith}
 use mathlib.Core.Path.{_≡_, refl, sym, ap, ap₂, _∙_}
 use mathlib.Core.Bool.{true, false}
@@ -12,18 +12,18 @@ use Rattle.octets.specs.Layout.{pad, total, replaced, zeroed}
 use Rattle.octets.proofs.Layouts.{pad-same}
 use Rattle.mask.specs.Fields.{dwellWidths}
 use Rattle.format.specs.declared.Reading.{Reading}
-use Rattle.format.specs.declared.Area.{Area}
 use Rattle.format.specs.declared.Check.the-variants.{Passed}
 use Rattle.format.specs.Packet.{Segment}
 use Rattle.format.specs.Dwell.{dwellFields}
-use Rattle.format.specs.Edition.{isOlder, shown, mark}
-use Rattle.format.specs.Sheet.{bodyLength, recordOf, headerRecord, dwellRecord, targetRecord, targetRecords, pieceRecord, pieceRecords, dwellRecords, textRecords, opaqueRecords, jobRecords, segmentRecords, packetRecords}
+use Rattle.format.specs.Edition.{isOlder, isHrr, shown, mark}
+use Rattle.format.specs.Sheet.{Record, bodyLength, recordOf, headerRecord, dwellRecord, dwellRecords, hrrRecord, hrrRecords, textRecords, opaqueRecords, jobRecords, segmentRecords, packetRecords}
 use Rattle.format.specs.Rows.{firstRow, bodyRows}
 use Rattle.format.proofs.Types.{by-number}
 use Rattle.format.proofs.Bodies.{job-length, length-dwell}
 use Rattle.format.proofs.Dwells.{is-dwell}
 use Rattle.demands.specs.Filled.{dwellBodyWidths}
 use Rattle.format.proofs.Segments.{AllSound}
+use Rattle.demands.proofs.Runs.{Run, run-end, run-more, targets-run, scatterers-run, pieces-run}
 use Rattle.demands.proofs.Withheld.{put-behind}
 use Rattle.demands.proofs.Alike.{Alike, dwell, job, other, AllAlike, none, next, alike-append, length-one}
 
@@ -37,17 +37,10 @@ pub header-alike : (l : List ℕ) → Alike (headerRecord l) (headerRecord l)
 unfolding headerRecord
 header-alike l = same-record 1 l refl refl
 
--- and the targets
-targets-alike : (m : ℕ) (area : Area) (n : ℕ) (t : List ℕ) → AllAlike (targetRecords m area n t) (targetRecords m area n t)
-unfolding targetRecords targetRecord
-targets-alike m area zero t = none
-targets-alike m area (suc n) t = next (same-record 4 _ refl refl) (targets-alike m area n _)
-
--- and the pieces
-pieces-alike : (n : ℕ) (b : List ℕ) → AllAlike (pieceRecords n b) (pieceRecords n b)
-unfolding pieceRecords pieceRecord
-pieces-alike zero b = none
-pieces-alike (suc n) b = next (same-record 6 _ refl refl) (pieces-alike n _)
+-- and all of a run of such records
+run-alike : {kind n : ℕ} {qs : List Record} → eqb kind 3 ≡ false → eqb kind 8 ≡ false → Run kind n qs → AllAlike qs qs
+run-alike h3 h8 run-end = none
+run-alike h3 h8 (run-more {q = q} e a) = next (other {r = q} (rw e h3) (rw e h8)) (run-alike h3 h8 a)
 
 -- alike bytes, as many as the kind says, make alike records
 whole-alike : (kind : ℕ) (x y : List ℕ) → length y ≡ bodyLength kind → Alike (record { kind = kind; body = x }) (record { kind = kind; body = y }) → Alike (recordOf kind x) (recordOf kind y)
@@ -71,7 +64,7 @@ dwell-length : (b : List ℕ) → 8 ≤ length b → length (take 8 b ++ dwellFi
 dwell-length b h = length-append (take 8 b) (dwellFields b) ∙ ap₂ _+_ (length-take-le 8 b h) (length-dwell b)
 
 -- r1 is the older reading of a packet that r3 reads in full
-module _ (r1 r3 : Reading) (older : isOlder r1 ≡ true) (newer : isOlder r3 ≡ false) where
+module _ (r1 r3 : Reading) (older : isOlder r1 ≡ true) (newer : isOlder r3 ≡ false) (same : r1 .version ≡ r3 .version) where
   -- the two records of a dwell are alike
   dwell-alike : (b : List ℕ) → 8 ≤ length b → Alike (dwellRecord r1 b) (dwellRecord r3 b)
   unfolding dwellRecord shown mark bodyLength
@@ -88,16 +81,17 @@ module _ (r1 r3 : Reading) (older : isOlder r1 ≡ true) (newer : isOlder r3 ≡
   -- the records of a segment are alike, whatever its type
   body-alike : (t : ℕ) (b : List ℕ) → firstRow (bodyRows r3 t b) ≡ Passed
       → AllAlike (segmentRecords r1 (record { type = t; body = b })) (segmentRecords r3 (record { type = t; body = b }))
-  unfolding segmentRecords bodyRows dwellRecords textRecords opaqueRecords
+  unfolding segmentRecords bodyRows isHrr dwellRecords hrrRecords hrrRecord textRecords opaqueRecords
   body-alike t b =
-      by-number (λ (t : ℕ). firstRow (bodyRows r3 t b) ≡ Passed → AllAlike (segmentRecords r1 (record { type = t; body = b })) (segmentRecords r3 (record { type = t; body = b })))
+      by-number r3 (λ (t : ℕ). firstRow (bodyRows r3 t b) ≡ Passed → AllAlike (segmentRecords r1 (record { type = t; body = b })) (segmentRecords r3 (record { type = t; body = b })))
       (λ p. next (same-record 2 b refl refl) none)
-      (λ p. next (dwell-alike b (omega (arith, is-dwell r3 b p .exact))) (targets-alike _ _ _ _))
+      (λ p. next (dwell-alike b (omega (arith, is-dwell r3 b p .exact))) (run-alike refl refl (targets-run _ _ _ _)))
+      (λ h3 p. rw (same, h3) (next (same-record 11 _ refl refl) (run-alike refl refl (scatterers-run _ _ _))))
       (λ p. job-alike b (job-length r3 b p))
-      (λ p. next (same-record 5 _ refl refl) (pieces-alike _ _))
+      (λ p. next (same-record 5 _ refl refl) (run-alike refl refl (pieces-run _ _)))
       (λ p. next (same-record 9 b refl refl) none)
       (λ p. next (same-record 10 b refl refl) none)
-      (λ t h1 h2 h5 h6 h10 h13 p. rw (h1, h2, h5, h6, h10, h13) (next (same-record 7 _ refl refl) (pieces-alike _ _)))
+      (λ t h1 h2 h3 h5 h6 h10 h13 p. rw (h1, h2, same, h3, h5, h6, h10, h13) (next (same-record 7 _ refl refl) (run-alike refl refl (pieces-run _ _))))
       t
 
   -- so are those of all segments

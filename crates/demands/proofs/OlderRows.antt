@@ -10,7 +10,7 @@ use Rattle.format.specs.declared.Reading.{Reading}
 use Rattle.format.specs.declared.Check.the-variants.{Passed}
 use Rattle.format.specs.Packet.{typeAt, bodyAt, J}
 use Rattle.format.specs.Dwell.{maskOf}
-use Rattle.format.specs.Edition.{isOlder, isNewMode}
+use Rattle.format.specs.Edition.{isOlder, isHrr, isNewMode}
 use Rattle.format.specs.Rows.{Row, row, naming, firstRow, dwellRows, jobRows, bodyRows, segmentRows}
 use Rattle.format.specs.New.{newRows}
 use Rattle.format.proofs.Types.{by-number}
@@ -55,11 +55,11 @@ module _ (r1 r3 : Reading) (older : isOlder r1 ≡ true) (same : r1 .version ≡
 
   -- so each body that passes has only its new things to tell
   body-new : (t : ℕ) (b : List ℕ) → firstRow (bodyRows r3 t b) ≡ Passed → firstRow (bodyRows r1 t b) ≡ firstRow (newBody t b)
-  unfolding bodyRows firstRow
+  unfolding bodyRows isHrr firstRow
   body-new t b =
-      by-number (λ (t : ℕ). firstRow (bodyRows r3 t b) ≡ Passed → firstRow (bodyRows r1 t b) ≡ firstRow (newBody t b))
-      (λ p. p) (dwell-new b) (job-new b) (λ p. p) (λ p. p) (λ p. p)
-      (λ t h1 h2 h5 h6 h10 h13 p. rw (h1, h2, h5, h6, h10, h13))
+      by-number r3 (λ (t : ℕ). firstRow (bodyRows r3 t b) ≡ Passed → firstRow (bodyRows r1 t b) ≡ firstRow (newBody t b))
+      (λ p. p) (dwell-new b) (λ h3 p. rw (same, h3) (rw h3 at p)) (job-new b) (λ p. p) (λ p. p) (λ p. p)
+      (λ t h1 h2 h3 h5 h6 h10 h13 p. rw (h1, h2, same, h3, h5, h6, h10, h13))
       t
 
   -- the first row of the older reading of a segment that passes is the first thing that is new in it

@@ -1,6 +1,6 @@
 -- Every name on the sheet of an accepted packet is on one line, and a sheet with another name is not written.
 -- Assumes nothing.
-use Prim.Native.Nat.{ℕ, zero, suc, _+_, _≤_}
+use Prim.Native.Nat.{ℕ, _+_, _≤_}
 use native.Mathlib.Omega.{arith}
 use mathlib.Core.Path.{_≡_, refl, sym, ap, _∙_}
 use mathlib.Core.Bool.{Bool, true, false, not, cond, _&&_, or-true, and-assoc, true≢false}
@@ -15,7 +15,6 @@ use Rattle.octets.proofs.Layouts.{pad-take, field-front, field-kept, length-zer
 use Rattle.text.specs.Text.{TextField, oneLine, anyText, all, isLine, isLineByte, textFault}
 use Rattle.format.specs.declared.Settings.{Settings}
 use Rattle.format.specs.declared.Reading.{Reading}
-use Rattle.format.specs.declared.Area.{Area}
 use Rattle.format.specs.declared.Check.{Check}
 use Rattle.format.specs.declared.Check.the-variants.{Passed, Failed}
 use Rattle.format.specs.Packet.{Segment, s2, headerWidths, missionWidths, jobWidths, freeTextWidths}
@@ -25,7 +24,7 @@ use Rattle.format.specs.Edition.{asEdition, isOlder, shown, mark}
 use Rattle.format.specs.Reader.{readingOf, parsed, sheet}
 use Rattle.format.specs.Writer.{listed, isHeaded, due, isComplete, isAccepted, readsBack, spell, sheetRows, writerRows, writerAnswer, writingAnswer, write}
 use Rattle.format.specs.Rows.{firstRow, headerRows, missionRows, jobRows, textRows, bodyRows}
-use Rattle.format.specs.Sheet.{Record, bodyLength, recordOf, headerRecord, dwellRecord, targetRecord, targetRecords, pieceRecord, pieceRecords, dwellRecords, textRecords, opaqueRecords, jobRecords, segmentRecords, packetRecords}
+use Rattle.format.specs.Sheet.{Record, bodyLength, recordOf, headerRecord, dwellRecord, dwellRecords, hrrRecord, hrrRecords, textRecords, opaqueRecords, jobRecords, segmentRecords, packetRecords}
 use Rattle.format.proofs.Rows.{first-passes, either, both}
 use Rattle.format.proofs.Bodies.{record-exact, text-exact}
 use Rattle.format.proofs.Acceptance.{Acceptable, header-sized, read-only}
@@ -33,6 +32,7 @@ use Rattle.format.proofs.Records.{listed-sheet}
 use Rattle.format.proofs.Segments.{AllSound, parse-sound, by-rows}
 use Rattle.demands.specs.Names.{names, namesAreLines}
 use Rattle.demands.specs.Demands.{NamesOnOneLine}
+use Rattle.demands.proofs.Runs.{Run, run-end, run-more, targets-run, scatterers-run, pieces-run}
 use Rattle.demands.proofs.Written.{reads-back, back-means}
 
 -- ---- fields of text
@@ -139,30 +139,27 @@ unfolding namesAreLines
 lines-append [] qs p q = q
 lines-append (r ∷ rs) qs p q = let t = both (isLine (names r)) (namesAreLines rs) p in rw (t .0) (lines-append rs qs (t .1) q)
 
--- targets have no names
-targets-lines : (mask : ℕ) (area : Area) (n : ℕ) (t : List ℕ) → namesAreLines (targetRecords mask area n t) ≡ true
-unfolding namesAreLines names all targetRecords targetRecord recordOf
-targets-lines mask area zero t = refl
-targets-lines mask area (suc n) t = targets-lines mask area n _
-
--- nor have pieces
-pieces-lines : (n : ℕ) (b : List ℕ) → namesAreLines (pieceRecords n b) ≡ true
-unfolding namesAreLines names all pieceRecords pieceRecord recordOf
-pieces-lines zero b = refl
-pieces-lines (suc n) b = pieces-lines n (drop 32 b)
+-- records of a kind that has no names
+run-lines : {kind n : ℕ} {qs : List Record} → ((b : List ℕ) → names (record { kind = kind; body = b }) ≡ []) → Run kind n qs → namesAreLines qs ≡ true
+unfolding namesAreLines all
+run-lines h run-end = refl
+run-lines h (run-more {q = q} e a) =
+    let nameless : names q ≡ [] = ap (λ (k : ℕ). names (record { kind = k; body = q .body })) e ∙ h (q .body) in
+    rw nameless (run-lines h a)
 
 module _ (r : Reading) where
   segment-lines : (s : Segment) → firstRow (bodyRows r (s .type) (s .body)) ≡ Passed → namesAreLines (segmentRecords r s) ≡ true
-  unfolding namesAreLines names all dwellRecords dwellRecord jobRecords textRecords opaqueRecords recordOf
+  unfolding namesAreLines names all dwellRecords dwellRecord hrrRecords hrrRecord jobRecords textRecords opaqueRecords recordOf
   segment-lines s h =
       by-rows (λ (rs : List Record). namesAreLines rs ≡ true) r s h
       (λ _ p. rw (mission-lines (s .body) p))
-      (λ _ p. targets-lines _ _ _ _)
+      (λ _ p. run-lines (λ b. refl) (targets-run _ _ _ _))
+      (λ _ p. run-lines (λ b. refl) (scatterers-run _ _ _))
       (λ _ p. rw (job-lines r (s .body) p))
-      (λ _ p. rw (text-lines (s .body) _ p) (pieces-lines _ _))
+      (λ _ p. rw (text-lines (s .body) _ p) (run-lines (λ b. refl) (pieces-run _ _)))
       (λ _ p. refl)
       (λ _ p. refl)
-      (pieces-lines _ _)
+      (run-lines (λ b. refl) (pieces-run _ _))
 
   packet-lines : (ss : List Segment) → AllSound r ss → namesAreLines (packetRecords r ss) ≡ true
   unfolding namesAreLines packetRecords

@@ -1,7 +1,7 @@
 -- The pairs of D2 and D3 on the records of a packet are those of its segments: a dwell's record has them as its segment has, since what is
 -- withheld, D27, stands behind them, and no other record has any. And those that are counted are each pair once.
 -- Assumes nothing.
-use Prim.Native.Nat.{ℕ, zero, suc, _+_, _≤_}
+use Prim.Native.Nat.{ℕ, _+_, _≤_}
 use native.Mathlib.Omega.{arith}
 use mathlib.Core.Path.{_≡_, refl, ap, ap₂, _∙_}
 use mathlib.Core.Bool.{Bool, true, false, _&&_, cond}
@@ -15,12 +15,11 @@ use Rattle.octets.proofs.Layouts.{length-zeroed, field-front, field-kept, same-
 use Rattle.distinct.proofs.Laws.{same-members, none-twice}
 use Rattle.mask.specs.Fields.{dwellWidths}
 use Rattle.format.specs.declared.Reading.{Reading}
-use Rattle.format.specs.declared.Area.{Area}
 use Rattle.format.specs.declared.Check.the-variants.{Passed}
 use Rattle.format.specs.Packet.{Segment}
 use Rattle.format.specs.Dwell.{dwellFields, D, Pair, pairOf, isSamePair}
-use Rattle.format.specs.Edition.{isOlder, shown, mark}
-use Rattle.format.specs.Sheet.{Record, bodyLength, recordOf, dwellRecord, targetRecord, targetRecords, pieceRecord, pieceRecords, dwellRecords, textRecords, opaqueRecords, jobRecords, segmentRecords, packetRecords}
+use Rattle.format.specs.Edition.{isOlder, isHrr, shown, mark}
+use Rattle.format.specs.Sheet.{Record, bodyLength, recordOf, dwellRecord, dwellRecords, hrrRecord, hrrRecords, textRecords, opaqueRecords, jobRecords, segmentRecords, packetRecords}
 use Rattle.format.specs.Rows.{firstRow, dwellRows, bodyRows}
 use Rattle.format.specs.Reader.{pairsIn}
 use Rattle.format.proofs.Rows.{either, both}
@@ -30,6 +29,7 @@ use Rattle.format.proofs.Dwells.{is-dwell}
 use Rattle.format.proofs.Segments.{AllSound}
 use Rattle.demands.specs.Counts.{pairsOn}
 use Rattle.demands.specs.Demands.{DifferentPairs}
+use Rattle.demands.proofs.Runs.{Run, run-end, run-more, targets-run, scatterers-run, pieces-run}
 
 -- ---- a dwell's record
 
@@ -88,17 +88,11 @@ pairs-append (q ∷ rs) qs = go (eqb (q .kind) 3) (pairs-append rs qs)
     go true e = ap (λ (ps : List Pair). pairOf (drop 8 (q .body)) ∷ ps) e
     go false e = e
 
--- targets have none
-targets-without : (mask : ℕ) (area : Area) (n : ℕ) (t : List ℕ) → pairsOn (targetRecords mask area n t) ≡ []
-unfolding pairsOn targetRecords targetRecord recordOf
-targets-without mask area zero t = refl
-targets-without mask area (suc n) t = targets-without mask area n _
-
--- nor have pieces
-pieces-without : (n : ℕ) (b : List ℕ) → pairsOn (pieceRecords n b) ≡ []
-unfolding pairsOn pieceRecords pieceRecord recordOf
-pieces-without zero b = refl
-pieces-without (suc n) b = pieces-without n (drop 32 b)
+-- records of another kind than a dwell's have none
+run-without : {kind n : ℕ} {qs : List Record} → eqb kind 3 ≡ false → Run kind n qs → pairsOn qs ≡ []
+unfolding pairsOn
+run-without h run-end = refl
+run-without h (run-more e a) = rw (e, h) (run-without h a)
 
 module _ (r : Reading) where
   -- a dwell has one
@@ -106,21 +100,22 @@ module _ (r : Reading) where
   unfolding pairsOn dwellRecords dwellRecord recordOf
   dwell-pair b p =
       let long : 8 ≤ length b = omega (arith, is-dwell r b p .long) in
-      ap₂ (λ (q : Pair) (qs : List Pair). q ∷ qs) (record-pair r b long) (targets-without _ _ _ _)
+      ap₂ (λ (q : Pair) (qs : List Pair). q ∷ qs) (record-pair r b long) (run-without refl (targets-run _ _ _ _))
 
   -- any other segment has none
   segment-pairs : (s : Segment) → firstRow (bodyRows r (s .type) (s .body)) ≡ Passed → pairsOn (segmentRecords r s) ≡ cond (eqb (s .type) 2) (pairOf (dwellFields (s .body)) ∷ []) []
-  unfolding pairsOn segmentRecords bodyRows jobRecords textRecords opaqueRecords recordOf
+  unfolding pairsOn segmentRecords bodyRows isHrr hrrRecords hrrRecord jobRecords textRecords opaqueRecords recordOf
   segment-pairs s =
       let b = s .body in
-      by-number (λ (t : ℕ). firstRow (bodyRows r t b) ≡ Passed → pairsOn (segmentRecords r (record { type = t; body = b })) ≡ cond (eqb t 2) (pairOf (dwellFields b) ∷ []) [])
+      by-number r (λ (t : ℕ). firstRow (bodyRows r t b) ≡ Passed → pairsOn (segmentRecords r (record { type = t; body = b })) ≡ cond (eqb t 2) (pairOf (dwellFields b) ∷ []) [])
       (λ p. refl)
       (dwell-pair b)
+      (λ h3 p. rw h3 (run-without refl (scatterers-run _ _ _)))
       (λ p. refl)
-      (λ p. pieces-without _ _)
+      (λ p. run-without refl (pieces-run _ _))
       (λ p. refl)
       (λ p. refl)
-      (λ t h1 h2 h5 h6 h10 h13 p. rw (h1, h2, h5, h6, h10, h13) (pieces-without _ _))
+      (λ t h1 h2 h3 h5 h6 h10 h13 p. rw (h1, h2, h3, h5, h6, h10, h13) (run-without refl (pieces-run _ _)))
       (s .type)
 
   -- so the records of all segments have the pairs of the dwells

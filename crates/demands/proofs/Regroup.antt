@@ -14,19 +14,21 @@ use Rattle.octets.proofs.Laws.{be-taken}
 use Rattle.octets.proofs.Layouts.{pad-append, take-pad}
 use Rattle.mask.specs.Fields.{announcedLength, announcedFields, fullFields, dwellWidths, targetWidths, d32}
 use Rattle.mask.proofs.FullWidth.{length-full, announced-full}
+use Rattle.hrr.specs.Hrr.{hrrMask, scattererWidths}
 use Rattle.format.specs.declared.Reading.{Reading}
 use Rattle.format.specs.declared.Area.{Area}
 use Rattle.format.specs.declared.Check.the-variants.{Passed}
 use Rattle.format.specs.Packet.{Segment}
 use Rattle.format.specs.Dwell.{maskOf, dwellFields, areaOf, targetCount, targetsOf, targetLength, targetFields}
 use Rattle.format.specs.Edition.{isOlder}
-use Rattle.format.specs.Sheet.{Record, bodyLength, recordOf, targetRecord, targetRecords, pieceRecord, pieceRecords, pieceCount, piecesOf, dwellRecords, textRecords, opaqueRecords, jobRecords, segmentRecords, packetRecords}
+use Rattle.format.specs.Sheet.{Record, bodyLength, recordOf, targetRecord, targetRecords, pieceRecord, pieceRecords, pieceCount, piecesOf, dwellRecords, scattererRecord, scattererRecords, hrrRecord, hrrRecords, textRecords, opaqueRecords, jobRecords, segmentRecords, packetRecords}
 use Rattle.format.specs.Rows.{firstRow, dwellRows}
 use Rattle.format.specs.Writer.{isFollower, typeOf, given, givenBehind, regroup}
 use Rattle.format.proofs.Followers.{follower-regrouped, begins-regrouped}
 use Rattle.format.proofs.Segments.{Sound, AllSound, by-rows}
 use Rattle.format.proofs.Dwells.{is-dwell}
 use Rattle.format.proofs.Bodies.{mission-length, job-length, kept-length, text-length, record-exact, dwell-exact, job-exact, text-exact, opaque-exact}
+use Rattle.format.proofs.Hrr.{countIn, widthsIn, startIn, IsHrr, is-hrr, AllNarrow, four-widths, widths-narrow, scatterers-fill, widths-in-record, hrr-given, scatterer-given}
 
 -- records that begin with no follower and give these segments: their regrouping goes by no leader
 abbrev pub Settled : List Record → List Segment → Type 0
@@ -40,11 +42,19 @@ leads : (q : Record) (rs : List Record) (s : Segment) (front : List ℕ) (gs : L
 leads q rs s front gs f e t b leader =
     rw (begins-regrouped leader q rs f, e) (ap₂ (λ (x : ℕ) (y : List ℕ). record { front = []; segments = record { type = x; body = y } ∷ gs }) t b)
 
--- a follower, before what the records after it give
-follows : (leader q : Record) (rs : List Record) (own front : List ℕ) (gs : List Segment)
-    → isFollower q ≡ true → regroup leader rs ≡ record { front = front; segments = gs } → givenBehind leader q ≡ own
-    → regroup leader (q ∷ rs) ≡ record { front = own ++ front; segments = gs }
-follows leader q rs own front gs f e g = rw (follower-regrouped leader q rs f, e, g)
+-- so many followers in a row, each of which gives the next u of the bytes that they were made of
+data Give (leader : Record) (u : ℕ) : ℕ → List Record → List ℕ → Type 0 where
+  no-more : {t : List ℕ} → Give leader u 0 [] t
+  one-more : {n : ℕ} {q : Record} {qs : List Record} {t : List ℕ} → isFollower q ≡ true → givenBehind leader q ≡ take u t
+      → Give leader u n qs (drop u t) → Give leader u (suc n) (q ∷ qs) t
+
+-- what they give stands before what the records after them give
+front-regrouped : {leader : Record} {u n : ℕ} {qs : List Record} {t : List ℕ} → Give leader u n qs t → (rs : List Record) (gs : List Segment) → Settled rs gs
+    → regroup leader (qs ++ rs) ≡ record { front = take (n * u) t; segments = gs }
+front-regrouped {leader} {u} no-more rs gs s = rw zero-mul (s leader)
+front-regrouped {leader} {u} (one-more {n} {q} {qs} {t} f g h) rs gs s =
+    let e : suc n * u ≡ u + n * u = omega arith in
+    rw (follower-regrouped leader q (qs ++ rs) f, front-regrouped h rs gs s, g, e, take-add u (n * u) t)
 
 -- ---- dwells and targets
 
@@ -74,16 +84,24 @@ module _ (leader : Record) (mask : ℕ) (masked : maskOf (leader .body) ≡ mask
       let fields-first : (y : List ℕ) → pad (bodyLength 4) (f ++ y) ≡ f ++ pad rest y = λ y. pad-append (bodyLength 4) rest f y n in
       rw masked (simp (append-assoc, fields-first) (announced-full mask (d32 1) targetWidths t _ h))
 
-  -- targets in a row give theirs, before what follows them
-  targets-regrouped : (n : ℕ) (t : List ℕ) (rs : List Record) (gs : List Segment) → n * targetLength mask ≤ length t → Settled rs gs
-      → regroup leader (targetRecords mask area n t ++ rs) ≡ record { front = take (n * targetLength mask) t; segments = gs }
+  -- so do targets in a row
+  targets-give : (n : ℕ) (t : List ℕ) → n * targetLength mask ≤ length t → Give leader (targetLength mask) n (targetRecords mask area n t) t
   unfolding targetRecords targetRecord recordOf
-  targets-regrouped zero t rs gs h s = rw zero-mul (s leader)
-  targets-regrouped (suc n) t rs gs h s =
-      let u = targetLength mask in
-      let e : suc n * u ≡ u + n * u = omega arith in
-      rw (e, take-add u (n * u) t)
-      (follows leader (targetRecord mask area t) _ _ _ gs refl (targets-regrouped n (drop u t) rs gs (rw length-drop (omega arith)) s) (target-given t (omega arith)))
+  targets-give zero t h = no-more
+  targets-give (suc n) t h =
+      one-more refl (target-given t (omega arith)) (targets-give n (drop (targetLength mask) t) (rw length-drop (omega arith)))
+
+-- ---- scatterers
+
+-- behind a record that tells the widths of their four numbers
+module _ (leader : Record) (ws : List ℕ) (told : scattererWidths (hrrMask (leader .body)) (drop 5 (leader .body)) ≡ ws)
+    (four : length ws ≡ 4) (narrow : AllNarrow ws) where
+  -- scatterers in a row give the bytes that they were made of
+  scatterers-give : (n : ℕ) (t : List ℕ) → n * total ws ≤ length t → Give leader (total ws) n (scattererRecords ws n t) t
+  unfolding scattererRecords scattererRecord recordOf
+  scatterers-give zero t h = no-more
+  scatterers-give (suc n) t h =
+      one-more refl (scatterer-given ws t four narrow leader told (omega arith)) (scatterers-give n (drop (total ws) t) (rw length-drop (omega arith)))
 
 -- ---- pieces
 
@@ -94,22 +112,18 @@ piece-given leader b =
     let n : length (take 32 b) ≡ min 32 (length b) = length-take 32 b in
     ap (λ (k : ℕ). take k (pad 32 (take 32 b))) (sym n) ∙ take-pad 32 (take 32 b) (omega arith)
 
--- pieces in a row give theirs
-pieces-front : (leader : Record) (n : ℕ) (b : List ℕ) (rs : List Record) (gs : List Segment) → Settled rs gs
-    → regroup leader (pieceRecords n b ++ rs) ≡ record { front = take (n * 32) b; segments = gs }
+-- so do pieces in a row
+pieces-give : (leader : Record) (n : ℕ) (b : List ℕ) → Give leader 32 n (pieceRecords n b) b
 unfolding pieceRecords pieceRecord recordOf
-pieces-front leader zero b rs gs s = s leader
-pieces-front leader (suc n) b rs gs s =
-    let e : suc n * 32 ≡ 32 + n * 32 = omega arith in
-    rw (e, take-add 32 (n * 32) b)
-    (follows leader (pieceRecord b) _ _ _ gs refl (pieces-front leader n (drop 32 b) rs gs s) (piece-given leader b))
+pieces-give leader zero b = no-more
+pieces-give leader (suc n) b = one-more refl (piece-given leader b) (pieces-give leader n (drop 32 b))
 
 -- all pieces together give all that they carry
 pieces-regrouped : (leader : Record) (b : List ℕ) (rs : List Record) (gs : List Segment) → Settled rs gs
     → regroup leader (piecesOf b ++ rs) ≡ record { front = b; segments = gs }
 unfolding pieceCount
 pieces-regrouped leader b rs gs s =
-    pieces-front leader ((length b + 31) / 32) b rs gs s
+    front-regrouped (pieces-give leader ((length b + 31) / 32) b) rs gs s
     ∙ ap (λ (x : List ℕ). record { front = x; segments = gs }) (take-all ((length b + 31) / 32 * 32) b (omega arith))
 
 -- ---- the records of each type of segment, before others
@@ -119,19 +133,36 @@ module _ (s : Segment) (rs : List Record) (gs : List Segment) (settled : Settled
   whole-regrouped : (q : Record) → isFollower q ≡ false → typeOf q ≡ s .type → given q ≡ s .body → Settled (q ∷ rs) (s ∷ gs)
   whole-regrouped q f t g = leads q rs s [] gs f (settled q) t (append-nil (given q) ∙ g)
 
+  -- a record that gives the front of a segment, and followers that give the rest, u bytes each
+  led-regrouped : (q : Record) (qs : List Record) (from u n : ℕ) → isFollower q ≡ false → typeOf q ≡ s .type → length (s .body) ≡ from + n * u
+      → given q ≡ take from (s .body) → Give q u n qs (drop from (s .body)) → Settled (q ∷ (qs ++ rs)) (s ∷ gs)
+  led-regrouped q qs from u n f t e g h =
+      let b = s .body in
+      let all : take from b ++ take (n * u) (drop from b) ≡ b = sym (take-add from (n * u) b) ∙ take-all (from + n * u) b (omega arith) in
+      leads q (qs ++ rs) s (take (n * u) (drop from b)) gs f (front-regrouped h rs gs settled) t (ap (λ (x : List ℕ). x ++ take (n * u) (drop from b)) g ∙ all)
+
   -- a dwell with its targets
   dwell-regrouped : (r : Reading) → isOlder r ≡ false → s .type ≡ 2 → firstRow (dwellRows r (s .body)) ≡ Passed → Settled (dwellRecords r (s .body) ++ rs) (s ∷ gs)
   unfolding dwellRecords typeOf targetsOf given maskOf
   dwell-regrouped r o t e =
       let b = s .body in
       let from = 8 + announcedLength (maskOf b) 2 dwellWidths in
-      let size = targetCount b * targetLength (maskOf b) in
-      let n : length b ≡ from + size = is-dwell r b e .exact in
+      let u = targetLength (maskOf b) in
+      let n : length b ≡ from + targetCount b * u = is-dwell r b e .exact in
       let m : maskOf (take 8 b ++ (dwellFields b ++ 1 ∷ [])) ≡ maskOf b = be-taken 8 b (dwellFields b ++ 1 ∷ []) (omega arith) in
-      let all : take from b ++ take size (drop from b) ≡ b = sym (take-add from size b) ∙ take-all (from + size) b (omega arith) in
       rw (dwell-exact r b o (omega arith))
-      (leads _ _ s (take size (drop from b)) gs refl (targets-regrouped _ (maskOf b) m (areaOf (dwellFields b)) (targetCount b) (drop from b) rs gs (rw length-drop (omega arith)) settled) (sym t)
-      (ap (λ (x : List ℕ). x ++ take size (drop from b)) (dwell-given b (omega arith)) ∙ all))
+      (led-regrouped _ _ from u (targetCount b) refl (sym t) n (dwell-given b (omega arith))
+      (targets-give _ (maskOf b) m (areaOf (dwellFields b)) (targetCount b) (drop from b) (rw length-drop (omega arith))))
+
+  -- an HRR segment with its scatterers
+  hrr-regrouped : s .type ≡ 3 → IsHrr (s .body) → Settled (hrrRecords (s .body) ++ rs) (s ∷ gs)
+  unfolding hrrRecords hrrRecord recordOf typeOf
+  hrr-regrouped t h =
+      let b = s .body in
+      let ws = widthsIn b in
+      led-regrouped (hrrRecord b) _ (startIn b) (total ws) (countIn b) refl (sym t) (h .exact) (hrr-given b (h .masked) (omega (arith, h .exact)))
+      (scatterers-give (hrrRecord b) ws (widths-in-record b (h .masked)) (four-widths b) (widths-narrow b h) (countIn b) (drop (startIn b) b)
+      (omega (arith, scatterers-fill b h)))
 
   -- a text with its pieces
   text-regrouped : s .type ≡ 6 → 20 ≤ length (s .body) → Settled (textRecords (s .body) ++ rs) (s ∷ gs)
@@ -156,6 +187,7 @@ module _ (s : Segment) (rs : List Record) (gs : List Segment) (settled : Settled
       by-rows (λ (qs : List Record). Settled (qs ++ rs) (s ∷ gs)) r s (w .rows)
       (λ t e. kept 2 (mission-length (s .body) e) refl (sym t) refl)
       (λ t e. dwell-regrouped r o t e)
+      (λ t e. hrr-regrouped t (is-hrr (s .body) e))
       (λ t e. job t (job-length r (s .body) e))
       (λ t e. text-regrouped t (text-length (s .body) e))
       (λ t e. kept 9 (kept-length 14 (s .body) e) refl (sym t) refl)

@@ -9,7 +9,7 @@ use Rattle.format.specs.declared.Reading.{Reading}
 use Rattle.format.specs.declared.Check.{Check}
 use Rattle.format.specs.declared.Answer.{Answer}
 use Rattle.format.specs.Packet.{Segment, typeAt, sizeAt, bodyAt, version, segmentAt}
-use Rattle.format.specs.Edition.{asEdition, isOlder, shown, mark}
+use Rattle.format.specs.Edition.{asEdition, isOlder, isHrr, shown, mark}
 use Rattle.format.specs.Sheet.{Record, headerRecord, dwellRecord, dwellRecords, jobRecords, segmentRecords, packetRecords, recordBytes}
 use Rattle.format.specs.Answer.{outcome, leftBy}
 use Rattle.format.specs.Rows.{firstRow, dwellRows, jobRows, bodyRows, segmentRows}
@@ -31,8 +31,8 @@ module _ (r q : Reading) (r-full : isOlder r ≡ false) (q-full : isOlder q ≡ 
   job-rows b = rw (r-full, q-full)
 
   body-rows : (t : ℕ) (b : List ℕ) → bodyRows r t b ≡ bodyRows q t b
-  unfolding bodyRows
-  body-rows t b = rw (dwell-rows b, job-rows b)
+  unfolding bodyRows isHrr
+  body-rows t b = rw (dwell-rows b, job-rows b, same)
 
   segment-rows : (l : List ℕ) → segmentRows r l ≡ segmentRows q l
   unfolding segmentRows
@@ -58,8 +58,8 @@ module _ (r q : Reading) (r-full : isOlder r ≡ false) (q-full : isOlder q ≡ 
   job-records b = rw (r-full, q-full)
 
   segment-records : (s : Segment) → segmentRecords r s ≡ segmentRecords q s
-  unfolding segmentRecords
-  segment-records s = rw (dwell-records (s .body), job-records (s .body))
+  unfolding segmentRecords isHrr
+  segment-records s = rw (dwell-records (s .body), job-records (s .body), same)
 
   packet-records : (ss : List Segment) → packetRecords r ss ≡ packetRecords q ss
   unfolding packetRecords

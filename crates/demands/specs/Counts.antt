@@ -18,7 +18,7 @@ count f (r ∷ rs) = cond (f r) 1 0 + count f rs
 abbrev pub isKind : ℕ → Record → Bool
 isKind k r = eqb (r .kind) k
 
--- a record that begins a segment: neither the header, a target nor a piece
+-- a record that begins a segment: neither the header, a target, a piece nor a scatterer
 abbrev pub isLeader : Record → Bool
 isLeader r = not (isKind 1 r) && not (isFollower r)
 

@@ -99,7 +99,8 @@ pub record DifferentPairs : Type 0 where
   pub none-twice : (ps : List Pair) → hasRepeats isSamePair (withoutRepeats isSamePair ps) ≡ false
 
 -- ---- Document 02, A2: "For every accepted packet of n bytes, the sheet length is at most 33 + 45 × (n − 32) / 4, rounded down." So
--- whoever sets so much aside before reading is never refused for want of it.
+-- whoever sets so much aside before reading is never refused for want of it. "The bound of A2 must cover the new kinds" (request A4): it
+-- is of any packet, with HRR segments or without.
 pub record SheetBound : Type 0 where
   pub at-most : (settings : Settings) (l lent : List ℕ) (s d t n : ℕ) → read settings l lent .answer ≡ Accepted s d t n
       → n ≤ formula (length l)

@@ -10,7 +10,7 @@ use Rattle.distinct.specs.Distinct.{withoutRepeats}
 use Rattle.format.specs.Edition.{asEdition}
 use Rattle.format.specs.declared.Answer.the-variants.{Accepted}
 use Rattle.format.specs.Dwell.{isSamePair}
-use Rattle.format.specs.Samples.{zeros, version3, dwell, d2to9, d24to27, numbered, mission, job, freeText, segment}
+use Rattle.format.specs.Samples.{zeros, version3, dwell, d2to9, d24to27, numbered, mission, job, freeText, shortestHrr, magnitudes}
 use Rattle.format.specs.declared.New.the-variants.{Nothing, Found}
 use Rattle.format.specs.New.{firstNew}
 use Rattle.format.specs.Reader.{parsed, sheet, read}
@@ -38,8 +38,9 @@ namesWith is = map (λ i. namesAreLines (listed (set (sheet (asEdition 3) mixed)
 
 -- both readings of it, its filled sheets (filled in from its sheet without the header, each record meets one of another
 -- kind), its counts; the places around D27 (151 and 152) and around its mark (160), around J26 (272) and its mark (275); something new
--- in a second segment; the pairs of D2 and D3 of two dwells on an Edition 1 sheet; and a line feed at the first and the last byte of P3,
--- P5, P8, M1, M2, M4, J3, F1 and F2, and beside them, also in F3
+-- in a second segment: a J14 before an HRR segment, and an HRR segment; one with three scatterers, counted; the pairs of D2 and D3 of
+-- two dwells on an Edition 1 sheet; and a line feed at the first and the last byte of P3, P5, P8, M1, M2, M4, J3, F1 and F2, and beside
+-- them, also in F3
 unfoldable pub trials : List (Type 0)
 trials =
     (read (asEdition 3) mixed (zeros 400) .answer ≡ Accepted 4 1 1 369)
@@ -52,7 +53,9 @@ trials =
     ∷ (count (isKind 4) (listed (sheet (asEdition 3) mixed) .records) ≡ 1)
     ∷ (withheldOf (150 ∷ 151 ∷ 152 ∷ 153 ∷ 159 ∷ 160 ∷ 161 ∷ []) ≡ false ∷ true ∷ true ∷ false ∷ false ∷ true ∷ false ∷ [])
     ∷ (withheldOf (271 ∷ 272 ∷ 273 ∷ 274 ∷ 275 ∷ 276 ∷ []) ≡ false ∷ true ∷ false ∷ false ∷ true ∷ false ∷ [])
-    ∷ (firstNew 1 (parsed (asEdition 3) (version3 (mission 1 1 ++ job 96 ++ segment 3 [])) .segments) ≡ Found 2 14)
+    ∷ (firstNew 1 (parsed (asEdition 3) (version3 (mission 1 1 ++ job 96 ++ shortestHrr)) .segments) ≡ Found 2 14)
+    ∷ (firstNew 1 (parsed (asEdition 3) (version3 (mission 1 1 ++ shortestHrr)) .segments) ≡ Found 2 0)
+    ∷ (count isLeader (listed (sheet (asEdition 3) (version3 (magnitudes (7 ∷ 8 ∷ 9 ∷ [])))) .records) ≡ 1)
     ∷ (length (withoutRepeats isSamePair (pairsOn (listed (sheet (asEdition 3) (version3 (numbered 1 2 ++ numbered 1 2))) .records))) ≡ 1)
     ∷ (pairsOn (listed (sheet (asEdition 1) (version3 (numbered 1 2 ++ numbered 1 3))) .records) ≡ record { d2 = 1; d3 = 2 } ∷ record { d2 = 1; d3 = 3 } ∷ [])
     ∷ (namesWith (7 ∷ 8 ∷ 10 ∷ 11 ∷ 15 ∷ 24 ∷ []) ≡ replicate 6 false)

@@ -2,13 +2,20 @@
 ghost use mathlib.Core.Path.{_≡_};
 ghost use mathlib.Core.Bool.{cond};
 ghost use Rattle.mask.specs.Mask.{newInMask};
-ghost use Rattle.format.specs.Edition.{isOlder, mark, isNewMode};
+ghost use Rattle.format.specs.Edition.{isOlder, isHrr, mark, isNewMode};
 
 // Whether this is the Edition 1 reading of a version 3 packet.
 pub fn is_older(r: format::Reading) -> bool
     ensures { λ b. ⌜ b ≡ isOlder r ⌝ }
 {
     r.settings.edition == 1 && r.version == 3
+}
+
+// Whether a segment of type 3 is read field by field.
+pub fn is_hrr_read(r: format::Reading) -> bool
+    ensures { λ b. ⌜ b ≡ isHrr r 3 ⌝ }
+{
+    r.version == 3
 }
 
 // The mark of a field that the older reading withholds.

@@ -7,12 +7,16 @@ use mathlib.Core.Bool.{cond}
 use mathlib.Core.List.{List, [], _∷_, _++_, append-assoc}
 use lib.Dec.{eqb}
 use lib.ListN.{length, drop, length-append, length-drop}
+use Rattle.octets.specs.Layout.{total}
 use Rattle.octets.proofs.Layouts.{length-pad}
+use Rattle.mask.specs.Fields.{announcedLength}
+use Rattle.hrr.specs.Hrr.{hrrMask, hrrWidths, hrrFields, scattererCount, scattererWidths}
 use Rattle.format.specs.declared.Settings.{Settings}
 use Rattle.format.specs.declared.Reading.{Reading}
 use Rattle.format.specs.declared.Area.{Area}
 use Rattle.format.specs.Dwell.{maskOf, dwellFields, targetCount, targetsOf, targetLength, areaOf}
-use Rattle.format.specs.Sheet.{Record, bodyLength, recordOf, headerRecord, dwellRecord, targetRecord, targetRecords, pieceRecord, pieceRecords, pieceCount, dwellRecords, textRecords, opaqueRecords, jobRecords, segmentRecords, packetRecords, recordBytes}
+use Rattle.format.specs.Edition.{isHrr}
+use Rattle.format.specs.Sheet.{Record, bodyLength, recordOf, headerRecord, dwellRecord, targetRecord, targetRecords, pieceRecord, pieceRecords, pieceCount, dwellRecords, scattererRecord, scattererRecords, hrrRecord, hrrRecords, textRecords, opaqueRecords, jobRecords, segmentRecords, packetRecords, recordBytes}
 use Rattle.format.specs.Lengths.{recordLength}
 use Rattle.format.specs.Reader.{parsed, readingOf, sheet}
 use Rattle.format.proofs.Types.{by-number}
@@ -35,6 +39,14 @@ length-targets mask area zero t = refl
 length-targets mask area (suc n) t =
     let u = drop (targetLength mask) t in
     length-record 4 _ (targetRecords mask area n u) ∙ omega (arith, length-targets mask area n u)
+
+-- so many scatterers
+pub length-scatterers : (ws : List ℕ) (n : ℕ) (t : List ℕ) → length (recordBytes (scattererRecords ws n t)) ≡ n * recordLength 12
+unfolding scattererRecords scattererRecord recordBytes bodyLength
+length-scatterers ws zero t = refl
+length-scatterers ws (suc n) t =
+    let u = drop (total ws) t in
+    length-record 12 _ (scattererRecords ws n u) ∙ omega (arith, length-scatterers ws n u)
 
 -- so many pieces
 pub length-pieces : (n : ℕ) (b : List ℕ) → length (recordBytes (pieceRecords n b)) ≡ n * recordLength 6
@@ -64,6 +76,15 @@ dwell r b =
     length-record 3 _ (targetRecords (maskOf b) (areaOf (dwellFields b)) (targetCount b) (targetsOf b))
     ∙ omega (arith, length-targets (maskOf b) (areaOf (dwellFields b)) (targetCount b) (targetsOf b))
 
+-- an HRR segment and its scatterers
+pub length-hrr : (b : List ℕ) → length (recordBytes (hrrRecords b)) ≡ recordLength 11 + scattererCount (hrrMask b) (hrrFields b) * recordLength 12
+unfolding hrrRecords hrrRecord bodyLength
+length-hrr b =
+    let ws = scattererWidths (hrrMask b) (hrrFields b) in
+    let n = scattererCount (hrrMask b) (hrrFields b) in
+    let t = drop (5 + announcedLength (hrrMask b) 2 hrrWidths) b in
+    length-record 11 _ (scattererRecords ws n t) ∙ omega (arith, length-scatterers ws n t)
+
 -- a text and its pieces
 pub length-text : (b : List ℕ) → length (recordBytes (textRecords b)) ≡ recordLength 5 + pieceCount (length b - 20) * recordLength 6
 unfolding textRecords bodyLength
@@ -82,26 +103,28 @@ unfolding jobRecords bodyLength
 job r b = length-one 8 _
 
 -- the bytes of a segment's records, by its type
-abbrev pub recordsOf : ℕ → List ℕ → ℕ
-recordsOf type b =
+abbrev pub recordsOf : Reading → ℕ → List ℕ → ℕ
+recordsOf r type b =
     cond (eqb type 1) (recordLength 2)
     (cond (eqb type 2) (recordLength 3 + targetCount b * recordLength 4)
     (cond (eqb type 5) (recordLength 8)
     (cond (eqb type 6) (recordLength 5 + pieceCount (length b - 20) * recordLength 6)
     (cond (eqb type 10) (recordLength 9)
     (cond (eqb type 13) (recordLength 10)
-    (recordLength 7 + pieceCount (length b) * recordLength 6))))))
+    (cond (isHrr r type) (recordLength 11 + scattererCount (hrrMask b) (hrrFields b) * recordLength 12)
+    (recordLength 7 + pieceCount (length b) * recordLength 6)))))))
 
 -- it is that of the definition
-pub length-segment : (r : Reading) (type : ℕ) (b : List ℕ) → length (recordBytes (segmentRecords r (record { type = type; body = b }))) ≡ recordsOf type b
-unfolding segmentRecords bodyLength
+pub length-segment : (r : Reading) (type : ℕ) (b : List ℕ) → length (recordBytes (segmentRecords r (record { type = type; body = b }))) ≡ recordsOf r type b
+unfolding segmentRecords isHrr bodyLength
 length-segment r type b =
-    by-number (λ (t : ℕ). length (recordBytes (segmentRecords r (record { type = t; body = b }))) ≡ recordsOf t b)
+    by-number r (λ (t : ℕ). length (recordBytes (segmentRecords r (record { type = t; body = b }))) ≡ recordsOf r t b)
     (length-one 2 b)
     (dwell r b)
+    (λ h3. rw h3 (length-hrr b))
     (job r b)
     (length-text b)
     (length-one 9 b)
     (length-one 10 b)
-    (λ t h1 h2 h5 h6 h10 h13. rw (h1, h2, h5, h6, h10, h13) (length-opaque t b))
+    (λ t h1 h2 h3 h5 h6 h10 h13. rw (h1, h2, h3, h5, h6, h10, h13) (length-opaque t b))
     type

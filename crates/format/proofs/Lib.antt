@@ -11,6 +11,7 @@ pub mod Filling
 pub mod ByType
 pub mod Bodies
 pub mod Dwells
+pub mod Hrr
 pub mod Acceptance
 pub mod Longest
 pub mod Samples

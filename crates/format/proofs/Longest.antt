@@ -12,16 +12,18 @@ use lib.Dec.{ltb}
 use lib.ListN.{length, drop, length-append, length-drop}
 use Rattle.mask.specs.Fields.{announced, announcedLength}
 use Rattle.mask.specs.Mask.{isPlaced}
+use Rattle.hrr.specs.Hrr.{hrrMask, hrrFields, scattererCount}
 use Rattle.format.specs.declared.Settings.{Settings}
 use Rattle.format.specs.declared.Reading.{Reading}
 use Rattle.format.specs.declared.Check.{Check}
 use Rattle.format.specs.declared.Check.the-variants.{Passed, Failed}
 use Rattle.format.specs.Packet.{Segment, typeAt, sizeAt, bodyAt}
 use Rattle.format.specs.Dwell.{maskOf, targetCount, targetLength}
+use Rattle.format.specs.Edition.{isHrr}
 use Rattle.format.specs.Sheet.{bodyLength, headerRecord, pieceCount, segmentRecords, packetRecords, recordBytes}
 use Rattle.format.specs.Lengths.{recordLength}
 use Rattle.format.specs.Bound.{formula, longestSheet}
-use Rattle.format.specs.Rows.{firstRow, dwellRows, bodyRows, segmentRows}
+use Rattle.format.specs.Rows.{firstRow, dwellRows, hrrRows, bodyRows, segmentRows}
 use Rattle.format.specs.Reader.{Parsed, onward, parse, readingOf, parsed, sheet}
 use Rattle.format.proofs.Types.{by-number}
 use Rattle.format.proofs.Rows.{first-passes, segment-passes}
@@ -29,6 +31,7 @@ use Rattle.format.proofs.Lengths.{bytes-append, length-record, recordsO
 use Rattle.format.proofs.Segments.{length-body}
 use Rattle.format.proofs.Bodies.{mission-length, job-length, kept-length, text-length}
 use Rattle.format.proofs.Dwells.{is-dwell}
+use Rattle.format.proofs.Hrr.{is-hrr, scatterers-few}
 
 -- a target that is placed takes at least the 4 bytes of D32.4 and D32.5
 placed-length : (mask : ℕ) → isPlaced mask ≡ true → 4 ≤ targetLength mask
@@ -62,23 +65,29 @@ targets-length r b e = go (targetCount b) (ltb 0 (targetCount b)) (isPlaced (mas
     go zero false p ht hp h = omega arith
     go (suc n) false p ht hp h = let z : suc n ≤ 0 = ltb-false 0 (suc n) ht in absurd (not-suc-le-zero z)
 
+-- the mandatory fields of an HRR segment take 29 bytes, and each scatterer takes one at least
+hrr-short : (b : List ℕ) → firstRow (hrrRows b) ≡ Passed
+    → 4 * (recordLength 11 + scattererCount (hrrMask b) (hrrFields b) * recordLength 12) ≤ recordLength 4 * (5 + length b)
+hrr-short b e = omega (arith, scatterers-few b (is-hrr b e))
+
 -- so many bytes in pieces of 32: their number
 piece-count : (n : ℕ) → 32 * pieceCount n ≤ n + 31
 unfolding pieceCount
 piece-count n = omega arith
 
 -- the bytes of the records of a segment to whose body no row applies, by its type
-records-short : (r : Reading) (type : ℕ) (b : List ℕ) → firstRow (bodyRows r type b) ≡ Passed → 4 * recordsOf type b ≤ recordLength 4 * (5 + length b)
-unfolding bodyRows
+records-short : (r : Reading) (type : ℕ) (b : List ℕ) → firstRow (bodyRows r type b) ≡ Passed → 4 * recordsOf r type b ≤ recordLength 4 * (5 + length b)
+unfolding bodyRows isHrr
 records-short r type b =
-    by-number (λ (t : ℕ). firstRow (bodyRows r t b) ≡ Passed → 4 * recordsOf t b ≤ recordLength 4 * (5 + length b))
+    by-number r (λ (t : ℕ). firstRow (bodyRows r t b) ≡ Passed → 4 * recordsOf r t b ≤ recordLength 4 * (5 + length b))
     (λ e. omega (arith, mission-length b e))
     (λ e. omega (arith, is-dwell r b e .exact, targets-length r b e))
+    (λ h3 e. rw h3 (hrr-short b (rw h3 at e)))
     (λ e. omega (arith, job-length r b e))
     (λ e. omega (arith, text-length b e, piece-count (length b - 20)))
     (λ e. omega (arith, kept-length 14 b e))
     (λ e. omega (arith, kept-length 23 b e))
-    (λ t h1 h2 h5 h6 h10 h13 e. rw (h1, h2, h5, h6, h10, h13) (omega (arith, piece-count (length b))))
+    (λ t h1 h2 h3 h5 h6 h10 h13 e. rw (h1, h2, h3, h5, h6, h10, h13) (omega (arith, piece-count (length b))))
     type
 
 -- those of a segment

@@ -14,7 +14,8 @@ use Rattle.format.specs.declared.Check.{Check}
 use Rattle.format.specs.declared.Check.the-variants.{Failed}
 use Rattle.format.specs.Packet.{typeAt, bodyAt}
 use Rattle.format.specs.Dwell.{maskOf, dwellFields, targetCount, targetsOf, targetLength, areaOf}
-use Rattle.format.specs.Rows.{Row, row, naming, isNaming, firstRow, headerRows, missionRows, targetRows, targetsRows, dwellRows, jobRows, textRows, keptRows, bodyRows, segmentRows}
+use Rattle.format.specs.Edition.{isHrr}
+use Rattle.format.specs.Rows.{Row, row, naming, isNaming, firstRow, headerRows, missionRows, targetRows, targetsRows, dwellRows, hrrRows, jobRows, textRows, keptRows, bodyRows, segmentRows}
 use Rattle.format.proofs.Rows.{passed-not-failed}
 
 -- a list of rows: some have field 0 and are none of those that name a field; the others name one that is not 0, where they apply, but for
@@ -85,6 +86,10 @@ dwell-named r b =
     plain refl (at-fault refl (at-fault refl (plain refl (fixed refl (fixed refl
     (targets-named (maskOf b) (areaOf (dwellFields b)) (targetCount b) (targetsOf b)))))))
 
+hrr-named : (b : List ℕ) → AllNamed (hrrRows b)
+unfolding hrrRows
+hrr-named b = plain refl (plain refl (plain refl none))
+
 job-named : (r : Reading) (b : List ℕ) → AllNamed (jobRows r b)
 unfolding jobRows
 job-named r b = plain refl (at-fault refl (fixed refl none))
@@ -102,10 +107,11 @@ unfolding bodyRows
 body-named r t b =
     either-named (eqb t 1) _ _ (mission-named b)
     (either-named (eqb t 2) _ _ (dwell-named r b)
+    (either-named (isHrr r t) _ _ (hrr-named b)
     (either-named (eqb t 5) _ _ (job-named r b)
     (either-named (eqb t 6) _ _ (text-named b)
     (either-named (eqb t 10) _ _ (kept-named 14 b)
-    (either-named (eqb t 13) _ _ (kept-named 23 b) none)))))
+    (either-named (eqb t 13) _ _ (kept-named 23 b) none))))))
 
 -- those of a segment
 pub segment-named : (r : Reading) (l : List ℕ) → AllNamed (segmentRows r l)

@@ -16,7 +16,8 @@ use Rattle.format.specs.declared.Settings.{Settings}
 use Rattle.format.specs.declared.Reading.{Reading}
 use Rattle.format.specs.declared.Area.{Area}
 use Rattle.format.specs.Packet.{Segment}
-use Rattle.format.specs.Sheet.{Record, bodyLength, recordOf, headerRecord, dwellRecord, targetRecord, targetRecords, pieceRecord, pieceRecords, missionRecords, dwellRecords, textRecords, opaqueRecords, jobRecords, testRecords, locationRecords, segmentRecords, packetRecords, recordBytes}
+use Rattle.format.specs.Edition.{isHrr}
+use Rattle.format.specs.Sheet.{Record, bodyLength, recordOf, headerRecord, dwellRecord, targetRecord, targetRecords, pieceRecord, pieceRecords, missionRecords, dwellRecords, scattererRecord, scattererRecords, hrrRecord, hrrRecords, textRecords, opaqueRecords, jobRecords, testRecords, locationRecords, segmentRecords, packetRecords, recordBytes}
 use Rattle.format.specs.Reader.{parsed, readingOf, sheet}
 use Rattle.format.specs.Writer.{list, listed}
 use Rattle.format.proofs.Types.{by-number}
@@ -44,6 +45,11 @@ unfolding targetRecords targetRecord bodyLength
 targets-formed mask area zero t = tt
 targets-formed mask area (suc n) t = (record-formed 4 _ (lit< tt), targets-formed mask area n _)
 
+scatterers-formed : (ws : List ℕ) (n : ℕ) (t : List ℕ) → AllFormed (scattererRecords ws n t)
+unfolding scattererRecords scattererRecord bodyLength
+scatterers-formed ws zero t = tt
+scatterers-formed ws (suc n) t = (record-formed 12 _ (lit< tt), scatterers-formed ws n _)
+
 pieces-formed : (n : ℕ) (b : List ℕ) → AllFormed (pieceRecords n b)
 unfolding pieceRecords pieceRecord bodyLength
 pieces-formed zero b = tt
@@ -53,25 +59,27 @@ pieces-formed (suc n) b = (record-formed 6 _ (lit< tt), pieces-formed n _)
 pub by-type : (P : List Record → Type 0) (r : Reading) (s : Segment)
     → P (missionRecords (s .body))
     → P (dwellRecords r (s .body))
+    → P (hrrRecords (s .body))
     → P (jobRecords r (s .body))
     → P (textRecords (s .body))
     → P (testRecords (s .body))
     → P (locationRecords (s .body))
     → P (opaqueRecords (s .type) (s .body))
     → P (segmentRecords r s)
-unfolding segmentRecords
-by-type P r s m d j t e l o =
-    by-number (λ (n : ℕ). P (opaqueRecords n (s .body)) → P (segmentRecords r (record { type = n; body = s .body })))
-    (λ _. m) (λ _. d) (λ _. j) (λ _. t) (λ _. e) (λ _. l)
-    (λ n h1 h2 h5 h6 h10 h13 o. rw (h1, h2, h5, h6, h10, h13) o)
+unfolding segmentRecords isHrr
+by-type P r s m d h j t e l o =
+    by-number r (λ (n : ℕ). P (opaqueRecords n (s .body)) → P (segmentRecords r (record { type = n; body = s .body })))
+    (λ _. m) (λ _. d) (λ h3 _. rw h3 h) (λ _. j) (λ _. t) (λ _. e) (λ _. l)
+    (λ n h1 h2 h3 h5 h6 h10 h13 o. rw (h1, h2, h3, h5, h6, h10, h13) o)
     (s .type) o
 
 pub segment-formed : (r : Reading) (s : Segment) → AllFormed (segmentRecords r s)
-unfolding dwellRecords dwellRecord jobRecords textRecords opaqueRecords bodyLength
+unfolding dwellRecords dwellRecord hrrRecords hrrRecord jobRecords textRecords opaqueRecords bodyLength
 segment-formed r s =
     by-type AllFormed r s
     (record-formed 2 _ (lit< tt), tt)
     (record-formed 3 _ (lit< tt), targets-formed _ _ _ _)
+    (record-formed 11 _ (lit< tt), scatterers-formed _ _ _)
     (record-formed 8 _ (lit< tt), tt)
     (record-formed 5 _ (lit< tt), pieces-formed _ _)
     (record-formed 9 _ (lit< tt), tt)

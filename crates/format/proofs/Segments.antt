@@ -14,8 +14,9 @@ use Rattle.format.specs.declared.Reading.{Reading}
 use Rattle.format.specs.declared.Check.{Check}
 use Rattle.format.specs.declared.Check.the-variants.{Passed, Failed}
 use Rattle.format.specs.Packet.{Segment, typeAt, sizeAt, bodyAt, segmentBytes}
-use Rattle.format.specs.Sheet.{Record, missionRecords, dwellRecords, jobRecords, textRecords, testRecords, locationRecords, opaqueRecords, segmentRecords}
-use Rattle.format.specs.Rows.{firstRow, missionRows, dwellRows, jobRows, textRows, keptRows, bodyRows, segmentRows}
+use Rattle.format.specs.Edition.{isHrr}
+use Rattle.format.specs.Sheet.{Record, missionRecords, dwellRecords, hrrRecords, jobRecords, textRecords, testRecords, locationRecords, opaqueRecords, segmentRecords}
+use Rattle.format.specs.Rows.{firstRow, missionRows, dwellRows, hrrRows, jobRows, textRows, keptRows, bodyRows, segmentRows}
 use Rattle.format.specs.Reader.{Parsed, onward, parse}
 use Rattle.format.specs.Writer.{segmentsBytes}
 use Rattle.format.proofs.Types.{by-number}
@@ -115,15 +116,17 @@ parse-sound r (suc k) (x ∷ xs) h =
 pub by-rows : (P : List Record → Type 0) (r : Reading) (s : Segment) → firstRow (bodyRows r (s .type) (s .body)) ≡ Passed
     → (s .type ≡ 1 → firstRow (missionRows (s .body)) ≡ Passed → P (missionRecords (s .body)))
     → (s .type ≡ 2 → firstRow (dwellRows r (s .body)) ≡ Passed → P (dwellRecords r (s .body)))
+    → (s .type ≡ 3 → firstRow (hrrRows (s .body)) ≡ Passed → P (hrrRecords (s .body)))
     → (s .type ≡ 5 → firstRow (jobRows r (s .body)) ≡ Passed → P (jobRecords r (s .body)))
     → (s .type ≡ 6 → firstRow (textRows (s .body)) ≡ Passed → P (textRecords (s .body)))
     → (s .type ≡ 10 → firstRow (keptRows 14 (s .body)) ≡ Passed → P (testRecords (s .body)))
     → (s .type ≡ 13 → firstRow (keptRows 23 (s .body)) ≡ Passed → P (locationRecords (s .body)))
     → P (opaqueRecords (s .type) (s .body))
     → P (segmentRecords r s)
-unfolding segmentRecords bodyRows
-by-rows P r s h m d j t e l o =
-    by-number (λ (n : ℕ). s .type ≡ n → firstRow (bodyRows r n (s .body)) ≡ Passed → P (opaqueRecords n (s .body)) → P (segmentRecords r (record { type = n; body = s .body })))
-    (λ q p _. m q p) (λ q p _. d q p) (λ q p _. j q p) (λ q p _. t q p) (λ q p _. e q p) (λ q p _. l q p)
-    (λ n h1 h2 h5 h6 h10 h13 q p o. rw (h1, h2, h5, h6, h10, h13) o)
+unfolding segmentRecords bodyRows isHrr
+by-rows P r s h m d hrr j t e l o =
+    by-number r (λ (n : ℕ). s .type ≡ n → firstRow (bodyRows r n (s .body)) ≡ Passed → P (opaqueRecords n (s .body)) → P (segmentRecords r (record { type = n; body = s .body })))
+    (λ q p _. m q p) (λ q p _. d q p) (λ h3 q p _. rw h3 (hrr q (rw h3 at p)))
+    (λ q p _. j q p) (λ q p _. t q p) (λ q p _. e q p) (λ q p _. l q p)
+    (λ n h1 h2 h3 h5 h6 h10 h13 q p o. rw (h1, h2, h3, h5, h6, h10, h13) o)
     (s .type) refl h o

@@ -17,6 +17,11 @@ asEdition n = record { edition = n }
 unfoldable pub isOlder : Reading → Bool
 isOlder r = eqb (r .settings .edition) 1 && eqb (r .version) 3
 
+-- a segment that is read field by field as an HRR segment: "Type 3 of a version 3 packet .. In a version 1 packet type 3 stays opaque"
+-- (request A4)
+unfoldable pub isHrr : Reading → ℕ → Bool
+isHrr r type = eqb type 3 && eqb (r .version) 3
+
 -- field n, which the older reading "withholds": "withheld and zeroed"
 unfoldable pub shown : Reading → ℕ → List ℕ → ℕ → List ℕ → List ℕ
 shown r first ws n b = cond (isOlder r) (zeroed first ws n b) b

@@ -62,7 +62,8 @@ s2 body = 5 + length body
 unfoldable pub segmentBytes : Segment → List ℕ
 segmentBytes s = s .type ∷ (bytes 4 (s2 (s .body)) ++ s .body)
 
--- "Types 3 (HRR, high range resolution), 4, 7, 8, 9, 11, 12, 101, 102: opaque, any body. No other type is known."
+-- "Types 3 (HRR, high range resolution), 4, 7, 8, 9, 11, 12, 101, 102: opaque, any body. No other type is known." Type 3 is opaque in
+-- version 1 alone (request A4)
 abbrev pub opaqueTypes : List ℕ
 opaqueTypes = 3 ∷ 4 ∷ 7 ∷ 8 ∷ 9 ∷ 11 ∷ 12 ∷ 101 ∷ 102 ∷ []
 

@@ -82,7 +82,7 @@ readingAnswer settings l lent =
       | Failed number field ↦ Refused number 0 field
     ]
 
--- the packet by itself, with no sheet lent: rows 1 to 15, and nothing is left
+-- the packet by itself, with no sheet lent: rows 1 to 15, 21 and 22, and nothing is left
 unfoldable pub check : Settings → List ℕ → Outcome
 check settings l = outcome (readingAnswer settings l (length (sheet settings l))) []
 

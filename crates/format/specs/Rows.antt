@@ -12,6 +12,7 @@ use Rattle.text.specs.Text.{textFault}
 use Rattle.mask.specs.Fields.{dwellSize, d32}
 use Rattle.octets.specs.Octets.{between}
 use Rattle.mask.specs.Mask.{lowestFault, newInMask, isPlaced}
+use Rattle.hrr.specs.Hrr.{hrrMask, isHrrMask, hrrFields, isHrrSize}
 use Rattle.position.specs.Position.{isLatitude}
 use Rattle.format.specs.declared.Settings.{Settings}
 use Rattle.format.specs.declared.Reading.{Reading}
@@ -20,7 +21,7 @@ use Rattle.format.specs.declared.Check.{Check}
 use Rattle.format.specs.declared.Check.the-variants.{Passed, Failed}
 use Rattle.format.specs.Packet.{headerWidths, headerTexts, P, isP1, typeAt, sizeAt, bodyAt, s2, isKnown, missionWidths, missionTexts, M, jobWidths, jobTexts, J, freeTextWidths, freeTextTexts}
 use Rattle.format.specs.Dwell.{maskOf, dwellFields, D, targetCount, targetsOf, targetLength, targetFields, D32, D32±, areaOf, latitude}
-use Rattle.format.specs.Edition.{isOlder, isNewMode}
+use Rattle.format.specs.Edition.{isOlder, isHrr, isNewMode}
 
 -- a row: its number, the field that it names, and whether it applies
 pub record Row : Type 0 where
@@ -93,6 +94,16 @@ dwellRows r b =
     ∷ row 13 5 (ltb 0 (targetCount b) && not (isPlaced (maskOf b)))
     ∷ targetsRows (maskOf b) (areaOf (dwellFields b)) (targetCount b) (targetsOf b)
 
+-- an HRR segment's body b (request A4): "Number 9 also covers a version 3 type 3 body that can't hold its mask"; "21 when the HRR mask lacks
+-- the magnitude or a field that document 003's table marks mandatory, or sets a bit that announces no field"; "22 when .." the widths or
+-- the size are wrong. "Both name the segment, with field 0."
+unfoldable pub hrrRows : List ℕ → List Row
+hrrRows b =
+    row 9 0 (ltb (s2 b) 10)
+    ∷ row 21 0 (not (isHrrMask (hrrMask b)))
+    ∷ row 22 0 (not (isHrrSize (hrrMask b) (hrrFields b) (s2 b)))
+    ∷ []
+
 -- a job definition's body b: "S2 wrong for type .. 5", "text, first field", "reading 1, version 3: J14"
 unfoldable pub jobRows : Reading → List ℕ → List Row
 jobRows r b =
@@ -117,11 +128,12 @@ unfoldable pub bodyRows : Reading → ℕ → List ℕ → List Row
 bodyRows r t b =
     cond (eqb t 1) (missionRows b)
     (cond (eqb t 2) (dwellRows r b)
+    (cond (isHrr r t) (hrrRows b)
     (cond (eqb t 5) (jobRows r b)
     (cond (eqb t 6) (textRows b)
     (cond (eqb t 10) (keptRows 14 b)
     (cond (eqb t 13) (keptRows 23 b)
-    [])))))
+    []))))))
 
 -- the segment at the front of l, which is what is left of the packet: "1 to 4 bytes left"; "unknown type"; "S2 under 5 or past the end";
 -- "reading 1, version 3: type 3"

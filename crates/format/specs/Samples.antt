@@ -92,3 +92,46 @@ headerWith i c = set (version3 []) i c
 -- a packet of one segment in which one byte of the body is replaced, counted from 0 at the body's begin
 abbrev pub bodyWith : List ℕ → ℕ → ℕ → List ℕ
 bodyWith s i c = version3 (set s (5 + i) c)
+
+-- the mask of an HRR segment with the mandatory fields and the magnitude alone
+abbrev pub mandatoryMask : ℕ
+mandatoryMask = 0xE2_FBC7_8200
+
+-- bits of such a mask: the magnitude, H6, H7, H27, the phase, both indices, and the lowest of those that announce nothing
+abbrev pub magnitudeBit : ℕ
+magnitudeBit = 0x200
+
+abbrev pub h6Bit : ℕ
+h6Bit = 0x08_0000_0000
+
+abbrev pub h7Bit : ℕ
+h7Bit = 0x04_0000_0000
+
+abbrev pub h27Bit : ℕ
+h27Bit = 0x4000
+
+abbrev pub phaseBit : ℕ
+phaseBit = 0x100
+
+abbrev pub indexBits : ℕ
+indexBits = 0xC0
+
+abbrev pub spareBit : ℕ
+spareBit = 0x01
+
+-- an HRR segment with this mask: H6 and H7 as far as they are announced, H8, H25, H26, and the bytes behind H26: scatterers,
+-- or what a trial puts in their place; all else is zero
+abbrev pub hrr : ℕ → List ℕ → ℕ → ℕ → ℕ → List ℕ → List ℕ
+hrr mask h6to7 h8 h25 h26 scatterers = segment 3 (bytes 5 mask ++ zeros 5 ++ h6to7 ++ bytes 2 h8 ++ zeros 20 ++ h25 ∷ h26 ∷ scatterers)
+
+-- one without scatterers that announces the mandatory fields alone: the shortest
+abbrev pub shortestHrr : List ℕ
+shortestHrr = hrr mandatoryMask [] 0 1 0 []
+
+-- one with H6 and so many scatterers, of which these are the magnitudes
+abbrev pub magnitudes : List ℕ → List ℕ
+magnitudes ms = hrr (mandatoryMask + h6Bit) (bytes 2 (length ms)) 0 1 0 ms
+
+-- the record of a scatterer with this magnitude of one byte, and nothing else
+abbrev pub scatterer : ℕ → List ℕ
+scatterer magnitude = 12 ∷ 0 ∷ magnitude ∷ zeros 6

@@ -6,14 +6,15 @@ use mathlib.Core.List.{List, [], _∷_, _++_}
 use lib.Dec.{eqb}
 use lib.ListN.{length, getD, take, drop}
 use Rattle.octets.specs.Octets.{bytes, signedBytes}
-use Rattle.octets.specs.Layout.{pad}
-use Rattle.mask.specs.Fields.{dwellWidths}
+use Rattle.octets.specs.Layout.{pad, total}
+use Rattle.mask.specs.Fields.{announcedLength, dwellWidths}
+use Rattle.hrr.specs.Hrr.{hrrMask, hrrWidths, hrrFields, scattererCount, scattererWidths, widened}
 use Rattle.position.specs.Position.{latitudeMicro, longitudeMicro}
 use Rattle.format.specs.declared.Reading.{Reading}
 use Rattle.format.specs.declared.Area.{Area}
 use Rattle.format.specs.Packet.{Segment, jobWidths}
 use Rattle.format.specs.Dwell.{maskOf, dwellFields, targetCount, targetsOf, targetLength, targetFields, areaOf, latitude, longitude}
-use Rattle.format.specs.Edition.{shown, mark}
+use Rattle.format.specs.Edition.{isHrr, shown, mark}
 
 -- "Records: one byte of kind, then a body whose length the kind fixes." Kind is the document's term for what a record holds.
 pub record Record : Type 0 where
@@ -21,9 +22,10 @@ pub record Record : Type 0 where
   pub body : List ℕ
 
 -- "1 header, 32", "2 mission, 39", "3 dwell, 87", "4 target, 44", "5 text, 24", "6 piece, 33", "7 opaque, 5", "8 job, 69",
--- "9 test, 14", "10 location, 23"; 0 for a number that is no kind
+-- "9 test, 14", "10 location, 23"; and by request A4 "kind 11 for the mask and the HRR fields", 5 and 61, and "kind 12 for each scatterer,
+-- body 8"; 0 for a number that is no kind
 abbrev pub bodyLengths : List ℕ
-bodyLengths = 0 ∷ 32 ∷ 39 ∷ 87 ∷ 44 ∷ 24 ∷ 33 ∷ 5 ∷ 69 ∷ 14 ∷ 23 ∷ []
+bodyLengths = 0 ∷ 32 ∷ 39 ∷ 87 ∷ 44 ∷ 24 ∷ 33 ∷ 5 ∷ 69 ∷ 14 ∷ 23 ∷ 66 ∷ 8 ∷ []
 
 -- "a body whose length the kind fixes"
 unfoldable pub bodyLength : ℕ → ℕ
@@ -78,6 +80,26 @@ missionRecords b = recordOf 2 b ∷ []
 unfoldable pub dwellRecords : Reading → List ℕ → List Record
 dwellRecords r b = dwellRecord r b ∷ targetRecords (maskOf b) (areaOf (dwellFields b)) (targetCount b) (targetsOf b)
 
+-- "kind 11 for the mask and the HRR fields before the scatterers, in order, at full widths"
+unfoldable pub hrrRecord : List ℕ → Record
+hrrRecord b = recordOf 11 (take 5 b ++ hrrFields b)
+
+-- "kind 12 for each scatterer, body 8: magnitude, phase, range index, Doppler index", which take these widths in the packet
+unfoldable pub scattererRecord : List ℕ → List ℕ → Record
+scattererRecord ws t = recordOf 12 (widened ws t)
+
+-- the n scatterers from t on
+unfoldable pub scattererRecords : List ℕ → ℕ → List ℕ → List Record
+scattererRecords ws zero t = []
+scattererRecords ws (suc n) t = scattererRecord ws t ∷ scattererRecords ws n (drop (total ws) t)
+
+-- an HRR segment, and its scatterers, which stand behind the mask and the announced fields
+unfoldable pub hrrRecords : List ℕ → List Record
+hrrRecords b =
+    let mask = hrrMask b in
+    let f = hrrFields b in
+    hrrRecord b ∷ scattererRecords (scattererWidths mask f) (scattererCount mask f) (drop (5 + announcedLength mask 2 hrrWidths) b)
+
 -- "5 text, 24: F1, F2, the length of F3 in 4."
 unfoldable pub textRecords : List ℕ → List Record
 textRecords b = recordOf 5 (take 20 b ++ bytes 4 (length b - 20)) ∷ piecesOf (drop 20 b)
@@ -105,11 +127,12 @@ segmentRecords r s =
     let b = s .body in
     cond (eqb t 1) (missionRecords b)
     (cond (eqb t 2) (dwellRecords r b)
+    (cond (isHrr r t) (hrrRecords b)
     (cond (eqb t 5) (jobRecords r b)
     (cond (eqb t 6) (textRecords b)
     (cond (eqb t 10) (testRecords b)
     (cond (eqb t 13) (locationRecords b)
-    (opaqueRecords t b))))))
+    (opaqueRecords t b)))))))
 
 -- of segments, one after another
 unfoldable pub packetRecords : Reading → List Segment → List Record

@@ -1,14 +1,14 @@
 -- Trials of the meanings. `marked` are those that document 01 marks P, in one list; `printedResults` its two packets with a printed
 -- result; `editions` and `writing` tell the readings and the writer's rows from likely mistakes; `splitDwells` tells the dwells that are
 -- counted from those that are not (request A1); `bounds` has the bound for some lengths (request A2); `texts` tries both sets of text in
--- the fields (request A3).
+-- the fields (request A3); `profiles` tries HRR segments (request A4).
 -- Assumes nothing.
-use Prim.Native.Nat.{ℕ}
+use Prim.Native.Nat.{ℕ, _+_, _-_}
 use mathlib.Core.Path.{_≡_}
 use mathlib.Core.List.{List, [], _∷_, _++_}
 use lib.IntN.{pos, negsuc}
 use lib.ListN.{length, take, drop, set}
-use Rattle.octets.specs.Octets.{be, signed}
+use Rattle.octets.specs.Octets.{be, bytes, signed}
 use Rattle.position.specs.Trials.{marked as positions}
 use Rattle.format.specs.Edition.{asEdition}
 use Rattle.format.specs.declared.Answer.{Answer}
@@ -17,7 +17,7 @@ use Rattle.format.specs.Answer.{outcome}
 use Rattle.format.specs.Reader.{readingAnswer, sheet, read}
 use Rattle.format.specs.Bound.{sheetBound}
 use Rattle.format.specs.Writer.{write}
-use Rattle.format.specs.Samples.{zeros, version1, version3, segment, empty, numbered, printed, northmost, job, mission, freeText, headerWith, bodyWith}
+use Rattle.format.specs.Samples.{zeros, version1, version3, segment, empty, numbered, printed, northmost, job, mission, freeText, headerWith, bodyWith, mandatoryMask, magnitudeBit, h6Bit, h7Bit, h27Bit, phaseBit, indexBits, spareBit, hrr, shortestHrr, magnitudes, scatterer}
 
 -- the Edition 1 reading with the program's sheet of 65,536 bytes
 abbrev pub read1 : List ℕ → Answer
@@ -75,9 +75,9 @@ editions =
     ∷ (read3 (version3 (empty 0xFF00_03C0_0001_0000 0)) ≡ Accepted 1 1 0 121)
     ∷ (read1 (version3 (empty 0xFF00_03C0_0001_0000 0)) ≡ Refused 15 1 49)
     ∷ (read1 (version3 (empty 0xFF00_03E0_0001_0000 2)) ≡ Refused 15 1 29)
-    -- type 3, also with a size that would be wrong for other types; in version 1 it is opaque
+    -- type 3, also with a body that can't hold its mask, which Edition 3 refuses (request A4); in version 1 it is opaque
     ∷ (read1 (version3 (mission 1 1 ++ segment 3 (7 ∷ []))) ≡ Refused 15 2 0)
-    ∷ (read3 (version3 (mission 1 1 ++ segment 3 (7 ∷ []))) ≡ Accepted 2 0 0 113)
+    ∷ (read3 (version3 (mission 1 1 ++ segment 3 (7 ∷ []))) ≡ Refused 9 2 0)
     ∷ (read1 (version1 (segment 3 (7 ∷ []))) ≡ Accepted 1 0 0 73)
     -- J14: 96 is new, 94 is not
     ∷ (read1 (version3 (job 96)) ≡ Refused 15 1 14)
@@ -127,8 +127,8 @@ splitDwells =
     -- a dwell that goes on behind another one, with the same D2 or the same D3
     ∷ (read3 (version3 (numbered 1 2 ++ numbered 1 3 ++ numbered 1 2)) ≡ Accepted 3 2 0 297)
     ∷ (read1 (version3 (numbered 1 2 ++ numbered 2 2 ++ numbered 1 2)) ≡ Accepted 3 2 0 297)
-    -- the same bytes in a range profile are no dwell
-    ∷ (read3 (version3 (numbered 1 2 ++ segment 3 (drop 5 (numbered 1 3)))) ≡ Accepted 2 1 0 195)
+    -- the same bytes in an opaque segment are no dwell
+    ∷ (read3 (version3 (numbered 1 2 ++ segment 4 (drop 5 (numbered 1 3)))) ≡ Accepted 2 1 0 195)
     -- the writer's answer has the same counts
     ∷ (write (sheet (asEdition 3) (version3 (numbered 1 2 ++ numbered 1 2))) (zeros 128) ≡ outcome (Accepted 2 1 0 128) (version3 (numbered 1 2 ++ numbered 1 2)))
     ∷ []
@@ -195,4 +195,57 @@ texts =
     ∷ (write (set (sheet (asEdition 3) (version3 [])) 15 0x0A) (zeros 32) ≡ outcome (Refused 19 0 0) (zeros 32))
     ∷ (write (set (sheet (asEdition 3) (version3 (job 94))) 39 0x0A) (zeros 105) .answer ≡ Refused 19 0 0)
     ∷ (write (set (sheet (asEdition 3) (version3 (freeText 33))) 60 0x0A) (zeros 90) ≡ outcome (Accepted 1 0 0 90) (bodyWith (freeText 33) 20 0x0A))
+    ∷ []
+
+-- "Type 3 of a version 3 packet is now read field by field" (request A4): rows 9, 21 and 22, the records, and the writer. On the sheet of a packet
+-- with one HRR segment its record begins at 33, H2 stands at 39, H5 at 44, H7 at 48, and the first scatterer's record begins at 100
+unfoldable pub profiles : List (Type 0)
+profiles =
+    -- the shortest, and three scatterers of one byte
+    (length (version3 shortestHrr) ≡ 71)
+    ∷ (read3 (version3 shortestHrr) ≡ Accepted 1 0 0 100)
+    ∷ (length (version3 (magnitudes (7 ∷ 8 ∷ 9 ∷ []))) ≡ 76)
+    ∷ (read3 (version3 (magnitudes (7 ∷ 8 ∷ 9 ∷ []))) ≡ Accepted 1 0 0 127)
+    ∷ (take 67 (drop 33 (sheet (asEdition 3) (version3 (magnitudes (7 ∷ 8 ∷ 9 ∷ [])))))
+    ≡ 11 ∷ (bytes 5 0xEA_FBC7_8200 ++ zeros 7 ++ bytes 2 3 ++ zeros 36 ++ 1 ∷ 0 ∷ zeros 14))
+    ∷ (drop 100 (sheet (asEdition 3) (version3 (magnitudes (7 ∷ 8 ∷ 9 ∷ [])))) ≡ scatterer 7 ++ scatterer 8 ++ scatterer 9)
+    -- no room for the mask; a mask without fields; the magnitude is not announced, or a spare bit is set, and the size is wrong too: 21 comes before 22
+    ∷ (read3 (version3 (segment 3 (zeros 4))) ≡ Refused 9 1 0)
+    ∷ (read3 (version3 (mission 1 1 ++ segment 3 (zeros 5))) ≡ Refused 21 2 0)
+    ∷ (read3 (version3 (hrr (mandatoryMask - magnitudeBit) [] 0 1 0 (0 ∷ []))) ≡ Refused 21 1 0)
+    ∷ (read3 (version3 (hrr (mandatoryMask + spareBit) [] 0 3 3 (0 ∷ []))) ≡ Refused 21 1 0)
+    -- a free bit, of H27
+    ∷ (read3 (version3 (hrr (mandatoryMask + h27Bit) [] 0 1 0 (5 ∷ []))) ≡ Accepted 1 0 0 100)
+    -- H25 0; H26 3, with no phase; a byte too many
+    ∷ (read3 (version3 (hrr mandatoryMask [] 0 0 0 [])) ≡ Refused 22 1 0)
+    ∷ (read3 (version3 (hrr mandatoryMask [] 0 1 3 [])) ≡ Refused 22 1 0)
+    ∷ (read3 (version3 (hrr mandatoryMask [] 0 1 0 (0 ∷ []))) ≡ Refused 22 1 0)
+    -- H7 times H8 scatterers; none where H6 is 0; 2 to the 30 of 4 bytes each, whose bytes 32 bits would count as none
+    ∷ (read3 (version3 (hrr (mandatoryMask + h7Bit) (bytes 2 2) 3 1 0 (zeros 6))) ≡ Accepted 1 0 0 154)
+    ∷ (read3 (version3 (hrr (mandatoryMask + h6Bit + h7Bit) (bytes 2 0 ++ bytes 2 2) 3 1 0 [])) ≡ Accepted 1 0 0 100)
+    ∷ (read3 (version3 (hrr (mandatoryMask + h7Bit + indexBits) (bytes 2 32768) 32768 2 0 [])) ≡ Refused 22 1 0)
+    -- a phase that takes no byte; a phase and both indices of one byte
+    ∷ (drop 100 (sheet (asEdition 3) (version3 (hrr (mandatoryMask + h6Bit + phaseBit) (bytes 2 1) 0 1 0 (7 ∷ [])))) ≡ scatterer 7)
+    ∷ (drop 100 (sheet (asEdition 3) (version3 (hrr (mandatoryMask + h6Bit + phaseBit + indexBits) (bytes 2 1) 0 2 1 (1 ∷ 2 ∷ 3 ∷ 4 ∷ 5 ∷ []))))
+    ≡ 12 ∷ 1 ∷ 2 ∷ 0 ∷ 3 ∷ 0 ∷ 4 ∷ 0 ∷ 5 ∷ [])
+    -- it is no dwell; "An Edition 1 reading still names the segment", before its rows; "In a version 1 packet type 3 stays opaque"
+    ∷ (read3 (version3 (numbered 1 2 ++ shortestHrr)) ≡ Accepted 2 1 0 188)
+    ∷ (read1 (version3 shortestHrr) ≡ Refused 15 1 0)
+    ∷ (read1 (version3 (hrr mandatoryMask [] 0 0 0 [])) ≡ Refused 15 1 0)
+    ∷ (read1 (version1 shortestHrr) ≡ Accepted 1 0 0 107)
+    ∷ (read3 (version1 shortestHrr) ≡ Accepted 1 0 0 107)
+    -- the writer gives the packet back; a scatterer too few, one too many, and one where none is called for
+    ∷ (write (sheet (asEdition 3) (version3 (magnitudes (7 ∷ 8 ∷ 9 ∷ [])))) (zeros 76)
+    ≡ outcome (Accepted 1 0 0 76) (version3 (magnitudes (7 ∷ 8 ∷ 9 ∷ []))))
+    ∷ (write (take 118 (sheet (asEdition 3) (version3 (magnitudes (7 ∷ 8 ∷ 9 ∷ []))))) (zeros 76) .answer ≡ Refused 18 0 0)
+    ∷ (write (sheet (asEdition 3) (version3 (magnitudes (7 ∷ []))) ++ scatterer 8) (zeros 76) .answer ≡ Refused 18 0 0)
+    ∷ (write (sheet (asEdition 3) (version3 (mission 1 1)) ++ scatterer 7) (zeros 76) .answer ≡ Refused 18 0 0)
+    -- a byte before a number that takes one, and one in H5, which is absent
+    ∷ (write (set (sheet (asEdition 3) (version3 (magnitudes (7 ∷ [])))) 101 1) (zeros 74) .answer ≡ Refused 19 0 0)
+    ∷ (write (set (sheet (asEdition 3) (version3 shortestHrr)) 44 1) (zeros 71) .answer ≡ Refused 19 0 0)
+    -- an absent H7 counts as zero, though 1 stands there and in H8: no scatterer is called for
+    ∷ (write (set (sheet (asEdition 3) (version3 (hrr mandatoryMask [] 1 1 0 []))) 49 1 ++ scatterer 7) (zeros 72) .answer ≡ Refused 18 0 0)
+    -- the records of the one version under a header of the other
+    ∷ (write (set (sheet (asEdition 3) (version3 shortestHrr)) 1 0x31) (zeros 71) .answer ≡ Refused 19 0 0)
+    ∷ (write (set (sheet (asEdition 3) (version1 shortestHrr)) 1 0x33) (zeros 71) .answer ≡ Refused 19 0 0)
     ∷ []

@@ -7,6 +7,7 @@ use lib.Dec.{ltb, leb, eqb}
 use lib.ListN.{length, getD, take, drop}
 use Rattle.octets.specs.Octets.{be}
 use Rattle.mask.specs.Fields.{announcedFields, dwellWidths, targetWidths, d32}
+use Rattle.hrr.specs.Hrr.{hrrMask, hrrWidths, scattererCount, scattererWidths, narrowed}
 use Rattle.format.specs.Edition.{asEdition}
 use Rattle.format.specs.declared.Check.{Check}
 use Rattle.format.specs.declared.Check.the-variants.{Passed, Failed}
@@ -52,9 +53,9 @@ isHeaded [] = false
 isHeaded (r ∷ rs) = eqb (r .kind) 1 && noHeader rs
 
 -- ---- row 18: "a kind 3, 5 or 7 not followed directly by exactly the kind 4 or 6 records, with the counts, that it calls for; a
--- kind 4 or 6 anywhere else"
+-- kind 4 or 6 anywhere else"; "Number 18 holds kind 12 to its kind 11 likewise" (request A4)
 
--- what is due next: records of which kind, and how much is left of them, counted in targets or in the bytes that pieces carry
+-- what is due next: records of which kind, and how much is left of them, counted in targets, in scatterers or in the bytes that pieces carry
 pub record Due : Type 0 where
   pub kind : ℕ
   pub left : ℕ
@@ -64,23 +65,24 @@ abbrev pub due : ℕ → ℕ → Due
 due kind left = record { kind = kind; left = left }
 
 -- what a record "calls for": a kind 3 its D5 targets; a kind 5 pieces for F3, and a kind 7 for its body, of the length that stands in
--- the record; any other nothing
+-- the record; a kind 11 its scatterers, by the mask and the fields that stand in the record; any other nothing
 unfoldable pub calledFor : Record → Due
 calledFor r =
     cond (eqb (r .kind) 3) (due 4 (D 5 (drop 8 (r .body))))
     (cond (eqb (r .kind) 5) (due 6 (be 4 (drop 20 (r .body))))
     (cond (eqb (r .kind) 7) (due 6 (be 4 (drop 1 (r .body))))
-    (due 0 0)))
+    (cond (eqb (r .kind) 11) (due 12 (scattererCount (hrrMask (r .body)) (drop 5 (r .body))))
+    (due 0 0))))
 
--- "a kind 4 or 6": a target or a piece, which stands only behind a record that calls for it
+-- "a kind 4 or 6", or a kind 12: a target, a piece or a scatterer, which stands only behind a record that calls for it
 abbrev pub isFollower : Record → Bool
-isFollower r = eqb (r .kind) 4 || eqb (r .kind) 6
+isFollower r = eqb (r .kind) 4 || eqb (r .kind) 6 || eqb (r .kind) 12
 
--- how much of what is left is due in the next record: 32 bytes in a piece, or what is left in the last one; else one target
+-- how much of what is left is due in the next record: 32 bytes in a piece, or what is left in the last one; else one target or scatterer
 abbrev pub share : Due → ℕ
 share d = cond (eqb (d .kind) 6) (min 32 (d .left)) 1
 
--- how much a record has: a piece as many bytes as it counts; else it is one target
+-- how much a record has: a piece as many bytes as it counts; else it is one target or scatterer
 abbrev pub carried : Record → ℕ
 carried r = cond (eqb (r .kind) 6) (getD (r .body) 0 0) 1
 
@@ -104,10 +106,11 @@ typeOf r =
     (cond (eqb (r .kind) 8) 5
     (cond (eqb (r .kind) 9) 10
     (cond (eqb (r .kind) 10) 13
-    (getD (r .body) 0 0))))))
+    (cond (eqb (r .kind) 11) 3
+    (getD (r .body) 0 0)))))))
 
--- what a record gives to the body of the segment that it begins: a dwell its mask and announced fields, a text F1 and F2, an opaque one
--- nothing, a job definition all but the mark, any other all
+-- what a record gives to the body of the segment that it begins: a dwell or an HRR segment its mask and announced fields, a text F1
+-- and F2, an opaque one nothing, a job definition all but the mark, any other all
 unfoldable pub given : Record → List ℕ
 given r =
     let b = r .body in
@@ -115,15 +118,17 @@ given r =
     (cond (eqb (r .kind) 5) (take 20 b)
     (cond (eqb (r .kind) 7) []
     (cond (eqb (r .kind) 8) (take 68 b)
-    b)))
+    (cond (eqb (r .kind) 11) (take 5 b ++ announcedFields (hrrMask b) 2 hrrWidths (drop 5 b))
+    b))))
 
 -- what a follower gives to the body of the segment that its leader began: a target the fields that the leader's mask announces, a
--- piece the bytes that it counts
+-- scatterer its numbers in the widths that the leader gives for them, a piece the bytes that it counts
 unfoldable pub givenBehind : Record → Record → List ℕ
 givenBehind leader r =
     let b = r .body in
     cond (eqb (r .kind) 4) (announcedFields (be 8 (leader .body)) (d32 1) targetWidths b)
-    (take (getD b 0 0) (drop 1 b))
+    (cond (eqb (r .kind) 12) (narrowed (scattererWidths (hrrMask (leader .body)) (drop 5 (leader .body))) b)
+    (take (getD b 0 0) (drop 1 b)))
 
 -- the segments that records give, and before them what followers at the front give to a segment begun earlier
 pub record Regrouped : Type 0 where

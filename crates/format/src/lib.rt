@@ -184,3 +184,26 @@ impl LocationRecord {
 
     pub const WHOLE: usize = 1 + LocationRecord::LEN;
 }
+
+pub struct HrrRecord {}
+
+impl HrrRecord {
+    pub const KIND: u8 = 11;
+
+    pub const LEN: usize = 66;
+
+    pub const WHOLE: usize = 1 + HrrRecord::LEN;
+
+    // H2 to H31 stand behind the mask.
+    pub const FIELDS: usize = 5;
+}
+
+pub struct ScattererRecord {}
+
+impl ScattererRecord {
+    pub const KIND: u8 = 12;
+
+    pub const LEN: usize = 8;
+
+    pub const WHOLE: usize = 1 + ScattererRecord::LEN;
+}

@@ -20,7 +20,7 @@ use Rattle.format.specs.declared.New.{New}
 use Rattle.format.specs.declared.New.the-variants.{Nothing, Found}
 use Rattle.format.specs.Packet.{Segment, typeAt, sizeAt, bodyAt, J, segmentAt}
 use Rattle.format.specs.Dwell.{maskOf}
-use Rattle.format.specs.Edition.{isNewMode}
+use Rattle.format.specs.Edition.{isHrr, isNewMode}
 use Rattle.format.specs.Rows.{naming, firstRow, bodyRows}
 use Rattle.format.specs.New.{newRows, firstNew}
 use Rattle.format.specs.Reader.{Parsed, parse, parsed, readingOf}
@@ -59,7 +59,7 @@ module _ (t : ℕ) (b : List ℕ) where
 
 -- a body to which no row applies has its mask, or its J14
 pub looked-at : (r : Reading) (t : ℕ) (b : List ℕ) → Checked r t b → (t ≡ 2 → 8 ≤ length b) × (t ≡ 5 → 46 ≤ length b)
-unfolding bodyRows
+unfolding bodyRows isHrr
 looked-at r t b c = (
   λ e. omega (arith, is-dwell r b (rows-as r b t 2 e (c .rows)) .long),
   λ e. omega (arith, job-length r b (rows-as r b t 5 e (c .rows))),

@@ -76,14 +76,19 @@ four mask n a b c d h =
     remainder a b c d (mask / 2 ^ k)
     ∙ rw (bit mask k 3 n (omega arith), bit mask k 2 (suc n) (omega arith), bit mask k 1 (suc (suc n)) (omega arith), bit mask k 0 (suc (suc (suc n))) (omega arith), div-one (mask / 2 ^ k))
 
--- and with two widths of 0, which add nothing, what two fields take
+-- a width of 0 adds nothing
+none : (t : Bool) → _≡_ {A = ℕ} (cond t 0 0) 0
+none true = refl
+none false = refl
+
+-- so with one the same look-up gives what three fields take, and with two what two take
+three : (mask n a b c : ℕ) → n ≤ 62 → getD (sums a b c 0) (mask / 2 ^ (62 - n) % 16) 0 ≡ announcedLength mask n (a ∷ b ∷ c ∷ [])
+unfolding announcedLength
+three mask n a b c h = omega (arith, four mask n a b c 0 h, none (announced mask (suc (suc (suc n)))))
+
 two : (mask n a b : ℕ) → n ≤ 62 → getD (sums a b 0 0) (mask / 2 ^ (62 - n) % 16) 0 ≡ announcedLength mask n (a ∷ b ∷ [])
 unfolding announcedLength
-two mask n a b h = omega (arith, four mask n a b 0 0 h, none (announced mask (suc (suc n))), none (announced mask (suc (suc (suc n)))))
-  where
-    none : (t : Bool) → _≡_ {A = ℕ} (cond t 0 0) 0
-    none true = refl
-    none false = refl
+two mask n a b h = omega (arith, three mask n a b 0 h, none (announced mask (suc (suc n))))
 
 -- the same of the widths of a range of the table, with its first field
 module _ (mask n : ℕ) (ws : List ℕ) (h : n ≤ 62) where
@@ -92,6 +97,9 @@ module _ (mask n : ℕ) (ws : List ℕ) (h : n ≤ 62) where
 
   pub four-fields : getD (sums (at 0) (at 1) (at 2) (at 3)) (mask / 2 ^ (62 - n) % 16) 0 ≡ announcedLength mask n (at 0 ∷ at 1 ∷ at 2 ∷ at 3 ∷ [])
   four-fields = four mask n (at 0) (at 1) (at 2) (at 3) h
+
+  pub three-fields : getD (sums (at 0) (at 1) (at 2) 0) (mask / 2 ^ (62 - n) % 16) 0 ≡ announcedLength mask n (at 0 ∷ at 1 ∷ at 2 ∷ [])
+  three-fields = three mask n (at 0) (at 1) (at 2) h
 
   pub two-fields : getD (sums (at 0) (at 1) 0 0) (mask / 2 ^ (62 - n) % 16) 0 ≡ announcedLength mask n (at 0 ∷ at 1 ∷ [])
   two-fields = two mask n (at 0) (at 1) h

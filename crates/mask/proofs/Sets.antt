@@ -32,7 +32,7 @@ pub fields : (w : ℕ) (f : ℕ → Bool) → T (stands-for w f) → (n : ℕ) �
 fields w f t n lo hi = beq-eq (announced w n) (f n) (from-all (λ n. Bool·beq (announced w n) (f n)) 64 2 t n lo hi)
 
 -- where no field of a list is set, none of them is
-none-set : (m n : ℕ) (g : List ℕ) → anySet m g ≡ false → isIn n g ≡ true → announced m n ≡ false
+pub none-set : (m n : ℕ) (g : List ℕ) → anySet m g ≡ false → isIn n g ≡ true → announced m n ≡ false
 unfolding anySet isIn
 none-set m n [] h k = absurd (true≢false (sym k))
 none-set m n (x ∷ xs) h k = go (eqb n x) refl (announced m x) refl (λ p q. none-set m n xs p q)

@@ -41,14 +41,14 @@ const D32_16_AND_17: u64 = 0x0000_0000_0006_0000;
 const D28_TO_30: u64 = 0x0000_0038_0000_0000;
 
 // The fields of the set that the mask leaves out.
-fn missing(mask: u64, set: u64) -> u64
+pub fn missing(mask: u64, set: u64) -> u64
     ensures { λ r. ⌜ ((n : ℕ) → announced r n ≡ (announced set n && not (announced mask n))) ⌝ }
 {
     (mask & set) ^ set
 }
 
 // The fields of the set that the mask has.
-fn common(mask: u64, set: u64) -> u64
+pub fn common(mask: u64, set: u64) -> u64
     ensures { λ r. ⌜ ((n : ℕ) → announced r n ≡ (announced set n && announced mask n)) ⌝ }
 {
     set & mask
@@ -165,7 +165,7 @@ const LENGTHS_D32_13_TO_16: [u8; 16] = [0, 1, 2, 3, 1, 2, 3, 4, 2, 3, 4, 5, 3, 4
 const LENGTHS_D32_17_AND_18: [u8; 16] = [0, 0, 0, 0, 1, 1, 1, 1, 4, 4, 4, 4, 5, 5, 5, 5];
 
 // The bytes that the four fields from n on take, by their table: one look in place of four tests.
-fn four(mask: u64, n: usize, lengths: &[u8; 16]) -> usize
+pub fn four(mask: u64, n: usize, lengths: &[u8; 16]) -> usize
     requires { ⌜ (2 ≤ n) × (n ≤ 62) ⌝ }
     ensures { λ r. ⌜ (r ≡ getD (now (lengths .entry)) (mask / 2 ^ (62 - n) % 16) 0) × (r < 256) ⌝ }
 {

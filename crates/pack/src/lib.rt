@@ -14,7 +14,7 @@ const D2_TO_9: u64 = 0xFF00_0000_0000_0000;
 const D24_TO_27: u64 = 0x0000_03C0_0000_0000;
 
 // One field of one, of two or of four bytes.
-fn field1(s: &[u8], p: usize, mask: u64, n: usize, o: &mut [u8], q: usize) -> usize
+pub fn field1(s: &[u8], p: usize, mask: u64, n: usize, o: &mut [u8], q: usize) -> usize
     requires { ⌜ (2 ≤ n) × (n ≤ 65) × Packable mask n (1 ∷ []) (now s) p (now o) q ⌝ }
     ensures { λ r. ⌜ Packed mask n (1 ∷ []) (now (s .entry)) p (now (o .entry)) q r (now (o .exit)) ⌝ }
 {
@@ -26,7 +26,7 @@ fn field1(s: &[u8], p: usize, mask: u64, n: usize, o: &mut [u8], q: usize) -> us
     }
 }
 
-fn field2(s: &[u8], p: usize, mask: u64, n: usize, o: &mut [u8], q: usize) -> usize
+pub fn field2(s: &[u8], p: usize, mask: u64, n: usize, o: &mut [u8], q: usize) -> usize
     requires { ⌜ (2 ≤ n) × (n ≤ 65) × Packable mask n (2 ∷ []) (now s) p (now o) q ⌝ }
     ensures { λ r. ⌜ Packed mask n (2 ∷ []) (now (s .entry)) p (now (o .entry)) q r (now (o .exit)) ⌝ }
 {
@@ -38,7 +38,7 @@ fn field2(s: &[u8], p: usize, mask: u64, n: usize, o: &mut [u8], q: usize) -> us
     }
 }
 
-fn field4(s: &[u8], p: usize, mask: u64, n: usize, o: &mut [u8], q: usize) -> usize
+pub fn field4(s: &[u8], p: usize, mask: u64, n: usize, o: &mut [u8], q: usize) -> usize
     requires { ⌜ (2 ≤ n) × (n ≤ 65) × Packable mask n (4 ∷ []) (now s) p (now o) q ⌝ }
     ensures { λ r. ⌜ Packed mask n (4 ∷ []) (now (s .entry)) p (now (o .entry)) q r (now (o .exit)) ⌝ }
 {

@@ -1,11 +1,11 @@
 -- A turn of the loops that compare batch by batch: where a batch differs the whole differs, and where it is the same the others decide.
 -- Assumes nothing.
 use Prim.Native.Nat.{ℕ, _+_, _-_, _*_, _/_, _≤_, _<_, min}
-use native.Mathlib.Nat.{mul-le-mul-right}
+use native.Mathlib.Nat.{mul-le-mul-right, add-mul, zero-mul}
 use native.Mathlib.Omega.{arith}
 use mathlib.Core.Path.{_≡_, refl, sym, ap, ap₂, _∙_}
 use mathlib.Core.Bool.{Bool, true, false}
-use mathlib.Core.List.{List, [], _++_, append-nil}
+use mathlib.Core.List.{List, [], _∷_, _++_, append-nil}
 use lib.ListN.{length, take, drop, length-drop, drop-of-length-le}
 use lib.Seq.{sets, take-all, drop-drop}
 use borrow.Author.Tests.{leb-true, leb-false}
@@ -14,82 +14,105 @@ use Rattle.octets.proofs.Parts.{tail-is, part-is, length-part}
 use Rattle.format.specs.declared.Area.{Area}
 use Rattle.format.specs.Dwell.{targetLength}
 use Rattle.format.specs.declared.Check.the-variants.{Passed}
-use Rattle.format.specs.Sheet.{Record, targetRecords, pieceRecords, pieceCount, piecesOf, recordBytes}
+use Rattle.octets.specs.Layout.{total}
+use Rattle.format.specs.Sheet.{Record, targetRecords, scattererRecords, pieceRecords, pieceCount, piecesOf, recordBytes}
 use Rattle.format.specs.Lengths.{recordLength}
 use Rattle.format.specs.Rows.{firstRow, targetsRows}
 use Rattle.format.specs.Writer.{isSame}
-use Rattle.format.proofs.Lengths.{bytes-append, length-targets, length-pieces}
+use Rattle.format.proofs.Lengths.{bytes-append, length-pieces}
 use Rattle.records.proofs.Pieces.{pieces-split}
 use Rattle.dwell_records.proofs.Targets.{targets-append, rows-append}
+use Rattle.hrr_records.proofs.Scatterers.{scatterers-append}
 use Rattle.readback.specs.InnerWindow.{windowLength}
 use Rattle.readback.proofs.Fronts.{front-differs, front-same}
 
--- ---- targets
+-- no bytes
+empty : (y : List ℕ) → length y ≡ 0 → y ≡ []
+empty [] h = refl
+empty (a ∷ y) h = absurd (omega arith)
 
--- k targets of `each` bytes, behind so many that are done
-module _ (mask each : ℕ) (area : Area) (t : List ℕ) (count done k : ℕ) (length-is : each ≡ targetLength mask) (some : done + k ≤ count) where
-  -- the targets behind the first n
-  abbrev from : ℕ → List ℕ
-  from n = drop (n * each) t
+-- ---- followers that each take as many bytes: targets and scatterers
 
-  onward : drop (k * targetLength mask) (from done) ≡ from (done + k)
-  onward =
-      let e : done * each + k * each ≡ (done + k) * each = omega arith in
-      ap (λ (u : ℕ). drop (k * u) (from done)) (sym length-is) ∙ drop-drop (k * each) (done * each) t ∙ ap (λ (n : ℕ). drop n t) e
+-- n of them from t on have the records rs n t; each takes `each` bytes there, and its record `size` on the sheet
+module _ (rs : ℕ → List ℕ → List Record) (each size : ℕ)
+    (append : (j k : ℕ) (t : List ℕ) → rs (j + k) t ≡ rs j t ++ rs k (drop (j * each) t))
+    (long : (k : ℕ) (t : List ℕ) → length (recordBytes (rs k t)) ≡ k * size) where
+  -- k of them, behind so many that are done
+  module _ (t : List ℕ) (count done k : ℕ) (some : done + k ≤ count) where
+    -- those behind the first n
+    abbrev from : ℕ → List ℕ
+    from n = drop (n * each) t
 
-  counts : count - done ≡ k + (count - (done + k))
-  counts = omega arith
+    onward : drop (k * each) (from done) ≡ from (done + k)
+    onward = drop-drop (k * each) (done * each) t ∙ ap (λ (n : ℕ). drop n t) (sym (add-mul done k each))
 
-  -- no row applies to those of the batch, and none to those behind it
-  pub batch-rows : firstRow (targetsRows mask area (count - done) (from done)) ≡ Passed
-      → (firstRow (targetsRows mask area k (from done)) ≡ Passed) × (firstRow (targetsRows mask area (count - (done + k)) (from (done + k))) ≡ Passed)
-  batch-rows e =
-      let p = rows-append mask area k (count - (done + k)) (from done) (sym (ap (λ (n : ℕ). firstRow (targetsRows mask area n (from done))) counts) ∙ e) in
-      (p .0, sym (ap (λ (y : List ℕ). firstRow (targetsRows mask area (count - (done + k)) y)) onward) ∙ p .1)
+    counts : count - done ≡ k + (count - (done + k))
+    counts = omega arith
 
-  -- they lie within
-  pub batch-within : count * each ≤ length t → done * each + k * each ≤ length t
-  batch-within h = omega (arith, mul-le-mul-right {m = done + k} {n = count} each some)
+    -- they lie within, and so do their records
+    pub batch-within : {n : ℕ} (w : ℕ) → count * w ≤ n → done * w + k * w ≤ n
+    batch-within w h = omega (arith, mul-le-mul-right {m = done + k} {n = count} w some, add-mul done k w)
 
-  -- the batch in the window, compared with its part of x
-  module _ (x w₀ w : List ℕ) {r : Bool} (whole : count * recordLength 4 ≡ length x) (room : k * recordLength 4 ≤ length w₀)
-      (filled : w ≡ sets w₀ 0 (recordBytes (targetRecords mask area k (take (length t - done * each) (from done)))))
-      (told : r ≡ isSame (take (length (take (done * recordLength 4 + k * recordLength 4 - done * recordLength 4) (drop (done * recordLength 4) x))) w) (take (done * recordLength 4 + k * recordLength 4 - done * recordLength 4) (drop (done * recordLength 4) x))) where
-    abbrev batch-targets : List ℕ
-    batch-targets = recordBytes (targetRecords mask area k (from done))
+    -- the batch in the window, compared with its part of x
+    module _ (x w₀ w : List ℕ) {r : Bool} (whole : count * size ≡ length x) (room : k * size ≤ length w₀)
+        (filled : w ≡ sets w₀ 0 (recordBytes (rs k (take (length t - done * each) (from done)))))
+        (told : r ≡ isSame (take (length (take (done * size + k * size - done * size) (drop (done * size) x))) w) (take (done * size + k * size - done * size) (drop (done * size) x))) where
+      abbrev batch : List ℕ
+      batch = recordBytes (rs k (from done))
 
-    abbrev later-targets : List ℕ
-    later-targets = recordBytes (targetRecords mask area (count - (done + k)) (from (done + k)))
+      abbrev later : List ℕ
+      later = recordBytes (rs (count - (done + k)) (from (done + k)))
 
-    laid : w ≡ sets w₀ 0 batch-targets
-    laid = filled ∙ ap (λ (y : List ℕ). sets w₀ 0 (recordBytes (targetRecords mask area k y))) (tail-is (done * each) t)
+      laid : w ≡ sets w₀ 0 batch
+      laid = filled ∙ ap (λ (y : List ℕ). sets w₀ 0 (recordBytes (rs k y))) (tail-is (done * each) t)
 
-    targets-both : recordBytes (targetRecords mask area (count - done) (from done)) ≡ batch-targets ++ later-targets
-    targets-both =
-        ap (λ (n : ℕ). recordBytes (targetRecords mask area n (from done))) counts
-        ∙ ap recordBytes (targets-append mask area k (count - (done + k)) (from done))
-        ∙ bytes-append (targetRecords mask area k (from done)) _
-        ∙ ap (λ (y : List ℕ). batch-targets ++ recordBytes (targetRecords mask area (count - (done + k)) y)) onward
+      both : recordBytes (rs (count - done) (from done)) ≡ batch ++ later
+      both =
+          ap (λ (n : ℕ). recordBytes (rs n (from done))) counts
+          ∙ ap recordBytes (append k (count - (done + k)) (from done))
+          ∙ bytes-append (rs k (from done)) _
+          ∙ ap (λ (y : List ℕ). batch ++ recordBytes (rs (count - (done + k)) y)) onward
 
-    pub targets-differ : r ≡ false → false ≡ isSame (recordBytes (targetRecords mask area (count - done) (from done))) (drop (done * recordLength 4) x)
-    targets-differ e =
-        front-differs batch-targets later-targets x w₀ w (done * recordLength 4) (k * recordLength 4) laid (length-targets mask area k (from done)) room (omega arith) told e
-        ∙ sym (ap (λ (y : List ℕ). isSame y (drop (done * recordLength 4) x)) targets-both)
+      fits : done * size + k * size ≤ length x
+      fits = batch-within size (omega (arith, whole))
 
-    pub targets-same : r ≡ true
-        → isSame (recordBytes (targetRecords mask area (count - (done + k)) (from (done + k)))) (drop ((done + k) * recordLength 4) x)
-        ≡ isSame (recordBytes (targetRecords mask area (count - done) (from done))) (drop (done * recordLength 4) x)
-    targets-same e =
-        let z : (done + k) * recordLength 4 ≡ done * recordLength 4 + k * recordLength 4 = omega arith in
-        ap (λ (n : ℕ). isSame later-targets (drop n x)) z
-        ∙ front-same batch-targets later-targets x w₀ w (done * recordLength 4) (k * recordLength 4) laid (length-targets mask area k (from done)) room (omega arith) told e
-        ∙ sym (ap (λ (y : List ℕ). isSame y (drop (done * recordLength 4) x)) targets-both)
+      pub batch-differs : r ≡ false → false ≡ isSame (recordBytes (rs (count - done) (from done))) (drop (done * size) x)
+      batch-differs e =
+          front-differs batch later x w₀ w (done * size) (k * size) laid (long k (from done)) room fits told e
+          ∙ sym (ap (λ (y : List ℕ). isSame y (drop (done * size) x)) both)
 
--- no targets are left, and nothing of x
-pub targets-end : (mask : ℕ) (area : Area) (n m : ℕ) (t x : List ℕ) → n ≡ 0 → length x ≤ m → isSame (recordBytes (targetRecords mask area n t)) (drop m x) ≡ true
-unfolding targetRecords recordBytes isSame
-targets-end mask area n m t x e h =
-    ap₂ (λ (k : ℕ) (y : List ℕ). isSame (recordBytes (targetRecords mask area k t)) y) e (drop-of-length-le x h)
+      pub batch-same : r ≡ true → isSame later (drop ((done + k) * size) x) ≡ isSame (recordBytes (rs (count - done) (from done))) (drop (done * size) x)
+      batch-same e =
+          ap (λ (n : ℕ). isSame later (drop n x)) (add-mul done k size)
+          ∙ front-same batch later x w₀ w (done * size) (k * size) laid (long k (from done)) room fits told e
+          ∙ sym (ap (λ (y : List ℕ). isSame y (drop (done * size) x)) both)
+
+  -- none are left, and nothing of x
+  pub batch-end : (n m : ℕ) (t x : List ℕ) → n ≡ 0 → length x ≤ m → isSame (recordBytes (rs n t)) (drop m x) ≡ true
+  unfolding isSame
+  batch-end n m t x e h = ap₂ isSame (empty (recordBytes (rs n t)) (long n t ∙ ap (λ (i : ℕ). i * size) e ∙ zero-mul size)) (drop-of-length-le x h)
+
+-- the rows of targets: none applies to those of a batch, and none to those behind it
+pub batch-rows : (mask each : ℕ) (area : Area) (t : List ℕ) (count done k : ℕ) → each ≡ targetLength mask → done + k ≤ count
+    → firstRow (targetsRows mask area (count - done) (drop (done * each) t)) ≡ Passed
+    → (firstRow (targetsRows mask area k (drop (done * each) t)) ≡ Passed) × (firstRow (targetsRows mask area (count - (done + k)) (drop ((done + k) * each) t)) ≡ Passed)
+batch-rows mask each area t count done k length-is some e =
+    let counts : count - done ≡ k + (count - (done + k)) = omega arith in
+    let p = rows-append mask area k (count - (done + k)) (drop (done * each) t) (sym (ap (λ (n : ℕ). firstRow (targetsRows mask area n (drop (done * each) t))) counts) ∙ e) in
+    let onward : drop (k * targetLength mask) (drop (done * each) t) ≡ drop ((done + k) * each) t =
+    ap (λ (u : ℕ). drop (k * u) (drop (done * each) t)) (sym length-is) ∙ drop-drop (k * each) (done * each) t ∙ ap (λ (n : ℕ). drop n t) (sym (add-mul done k each)) in
+    (p .0, sym (ap (λ (y : List ℕ). firstRow (targetsRows mask area (count - (done + k)) y)) onward) ∙ p .1)
+
+-- targets, and scatterers, as such followers
+pub targets-joined : (mask each : ℕ) (area : Area) → each ≡ targetLength mask → (j k : ℕ) (t : List ℕ)
+    → targetRecords mask area (j + k) t ≡ targetRecords mask area j t ++ targetRecords mask area k (drop (j * each) t)
+targets-joined mask each area e j k t =
+    targets-append mask area j k t ∙ ap (λ (u : ℕ). targetRecords mask area j t ++ targetRecords mask area k (drop (j * u) t)) (sym e)
+
+pub scatterers-joined : (ws : List ℕ) (each : ℕ) → each ≡ total ws → (j k : ℕ) (t : List ℕ)
+    → scattererRecords ws (j + k) t ≡ scattererRecords ws j t ++ scattererRecords ws k (drop (j * each) t)
+scatterers-joined ws each e j k t =
+    scatterers-append ws j k t ∙ ap (λ (u : ℕ). scattererRecords ws j t ++ scattererRecords ws k (drop (j * u) t)) (sym e)
 
 -- ---- pieces
 

@@ -7,7 +7,7 @@ use mathlib.Core.List.{List, [], _∷_}
 use lib.ListN.{length, take, drop, length-drop}
 use Rattle.octets.proofs.Parts.{tail-is}
 use Rattle.format.specs.declared.Reading.{Reading}
-use Rattle.format.specs.Sheet.{bodyLength, dwellRecord, recordBytes}
+use Rattle.format.specs.Sheet.{bodyLength, dwellRecord, hrrRecord, recordBytes}
 use Rattle.format.specs.Lengths.{recordLength}
 use Rattle.format.proofs.Lengths.{length-one}
 
@@ -15,6 +15,11 @@ use Rattle.format.proofs.Lengths.{length-one}
 pub dwell-length : (r : Reading) (b : List ℕ) → length (recordBytes (dwellRecord r b ∷ [])) ≡ recordLength 3
 unfolding dwellRecord bodyLength
 dwell-length r b = length-one 3 _
+
+-- the record of an HRR segment
+pub hrr-length : (b : List ℕ) → length (recordBytes (hrrRecord b ∷ [])) ≡ recordLength 11
+unfolding hrrRecord bodyLength
+hrr-length b = length-one 11 _
 
 -- what is left of x behind n bytes
 pub left-length : (n m : ℕ) (x : List ℕ) → length x ≡ n + m → length (take (length x - n) (drop n x)) ≡ m

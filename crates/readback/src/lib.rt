@@ -6,11 +6,14 @@ ghost use mathlib.Core.List.{_++_};
 ghost use Prim.Native.Nat.{_+_, _*_, _≤_, min};
 ghost use lib.Dec.{eqb};
 ghost use lib.ListN.{length, take};
+ghost use Rattle.octets.specs.Layout.{total};
+ghost use Rattle.hrr.specs.Hrr.{hrrMask, hrrFields, scattererCount};
+ghost use Rattle.hrr.specs.InnerScatterers.{widthsOf, Narrow};
 ghost use Rattle.format.specs.declared.Check.the-variants.{Passed};
 ghost use Rattle.format.specs.Dwell.{targetCount};
-ghost use Rattle.format.specs.Sheet.{targetRecords, dwellRecords, piecesOf, pieceCount, recordBytes};
+ghost use Rattle.format.specs.Sheet.{targetRecords, dwellRecords, scattererRecords, hrrRecords, piecesOf, pieceCount, opaqueRecords, recordBytes};
 ghost use Rattle.format.specs.Lengths.{recordLength};
-ghost use Rattle.format.specs.Rows.{firstRow, targetsRows, dwellRows};
+ghost use Rattle.format.specs.Rows.{firstRow, targetsRows, dwellRows, hrrRows};
 ghost use Rattle.format.specs.Reader.{sheet};
 ghost use Rattle.format.specs.Writer.{isSame};
 ghost use Rattle.dwell_checks.specs.InnerPlan.{Holds};
@@ -20,8 +23,10 @@ ghost use Rattle.readback.specs.InnerWindow.{windowLength};
 // The bytes of the window that records are laid out in.
 const WINDOW: usize = 512;
 
-// How many targets and how many pieces it has room for.
+// How many targets, scatterers and pieces it has room for.
 const TARGETS: usize = WINDOW / format::TargetRecord::WHOLE;
+
+const SCATTERERS: usize = WINDOW / format::ScattererRecord::WHOLE;
 
 const PIECES: usize = WINDOW / format::PieceRecord::WHOLE;
 
@@ -99,6 +104,47 @@ fn same_dwell(r: format::Reading, b: &[u8], x: &[u8], window: &mut [u8]) -> bool
     same_targets(&b[start..], p, &x[format::DwellRecord::WHOLE..], window)
 }
 
+// The scatterers of `each` bytes, which stand from t on: as many at a time as the window has room for.
+fn same_scatterers(t: &[u8], s: hrr::Scatterers, each: usize, x: &[u8], window: &mut [u8]) -> bool
+    requires { ⌜ Narrow s × (each ≡ total (widthsOf s)) × (s .count * each ≤ length (now t)) × (s .count * recordLength 12 ≡ length (now x)) × (windowLength ≤ length (now window)) ⌝ }
+    ensures { λ r. ⌜ r ≡ isSame (recordBytes (scattererRecords (widthsOf s) (s .count) (now (t .entry)))) (now (x .entry)) ⌝ }
+{
+    let mut done = 0;
+    while done < s.count {
+        let k = least(SCATTERERS, s.count - done);
+        let at = done * each;
+        let q = done * format::ScattererRecord::WHOLE;
+        let to = q + k * format::ScattererRecord::WHOLE;
+        hrr_records::scatterer_records(&t[at..], s, k, window);
+        if !is_front(window, &x[q..to]) {
+            return false;
+        }
+        done += k;
+    }
+    true
+}
+
+// An HRR segment to whose body b no row applies.
+fn same_hrr(b: &[u8], x: &[u8], window: &mut [u8]) -> bool
+    requires { ⌜ (firstRow (hrrRows (now b)) ≡ Passed) × (recordLength 11 + scattererCount (hrrMask (now b)) (hrrFields (now b)) * recordLength 12 ≡ length (now x)) × (windowLength ≤ length (now window)) ⌝ }
+    ensures { λ same. ⌜ same ≡ isSame (recordBytes (hrrRecords (now (b .entry)))) (now (x .entry)) ⌝ }
+{
+    let mask = hrr::mask_of(b);
+    let start = hrr::MASK + hrr::fields_length(mask);
+    let s = hrr_checks::scatterers_in(b);
+    hrr_records::hrr_record(b, mask, window);
+    if !is_front(window, &x[0..format::HrrRecord::WHOLE]) {
+        return false;
+    }
+    same_scatterers(
+        &b[start..],
+        s,
+        hrr::each_of(s),
+        &x[format::HrrRecord::WHOLE..],
+        window,
+    )
+}
+
 // The pieces that carry b: as many at a time as the window has room for.
 fn same_pieces(b: &[u8], x: &[u8], window: &mut [u8]) -> bool
     requires { ⌜ (pieceCount (length (now b)) * recordLength 6 ≡ length (now x)) × (windowLength ≤ length (now window)) ⌝ }
@@ -131,8 +177,17 @@ fn same_with_pieces(head: usize, b: &[u8], x: &[u8], window: &mut [u8]) -> bool
     same_pieces(b, &x[head..], window)
 }
 
+// An opaque segment.
+fn same_opaque(segment_type: u8, b: &[u8], x: &[u8], window: &mut [u8]) -> bool
+    requires { ⌜ (length (now b) ≤ 65536) × (recordLength 7 + pieceCount (length (now b)) * recordLength 6 ≡ length (now x)) × (windowLength ≤ length (now window)) ⌝ }
+    ensures { λ r. ⌜ r ≡ isSame (recordBytes (opaqueRecords «segment_type» (now (b .entry)))) (now (x .entry)) ⌝ }
+{
+    records::opaque_record(segment_type, b, window);
+    same_with_pieces(format::OpaqueRecord::WHOLE, b, x, window)
+}
+
 // The records of a segment that is checked. Where they fit into the window they are laid out there as the reader does; longer ones have
-// targets or pieces, and are compared part by part.
+// targets, scatterers or pieces, and are compared part by part.
 fn same_segment(r: format::Reading, segment_type: u8, b: &[u8], x: &[u8], window: &mut [u8]) -> bool
     requires { ⌜ Checked r «segment_type» (now b) × (length (bytesOf r «segment_type» (now b)) ≡ length (now x)) × (windowLength ≤ length (now window)) ⌝ }
     ensures { λ same. ⌜ same ≡ isSame (bytesOf r «segment_type» (now (b .entry))) (now (x .entry)) ⌝ }
@@ -143,6 +198,13 @@ fn same_segment(r: format::Reading, segment_type: u8, b: &[u8], x: &[u8], window
     }
     match segment_type {
         2 => same_dwell(r, b, x, window),
+        3 => {
+            if editions::is_hrr_read(r) {
+                same_hrr(b, x, window)
+            } else {
+                same_opaque(segment_type, b, x, window)
+            }
+        }
         6 => {
             records::text_record(b, window);
             same_with_pieces(
@@ -152,10 +214,7 @@ fn same_segment(r: format::Reading, segment_type: u8, b: &[u8], x: &[u8], window
                 window,
             )
         }
-        _ => {
-            records::opaque_record(segment_type, b, window);
-            same_with_pieces(format::OpaqueRecord::WHOLE, b, x, window)
-        }
+        _ => same_opaque(segment_type, b, x, window),
     }
 }
 

@@ -19,6 +19,13 @@ fn lay_out(r: format::Reading, segment_type: u8, b: &[u8], o: &mut [u8])
     match segment_type {
         1 => records::mission_records(b, o),
         2 => dwell_records::dwell_records(r, b, o),
+        3 => {
+            if editions::is_hrr_read(r) {
+                hrr_records::hrr_records(b, o)
+            } else {
+                records::opaque_records(segment_type, b, o)
+            }
+        }
         5 => records::job_records(r, b, o),
         6 => records::text_records(b, o),
         10 => records::test_records(b, o),
@@ -54,7 +61,7 @@ fn packet_records(r: format::Reading, l: &[u8], o: &mut [u8])
     }
 }
 
-// Rows 1 to 15 of the packet, with no sheet lent: the counts, and the length that its sheet has.
+// Rows 1 to 15, 21 and 22 of the packet, with no sheet lent: the counts, and the length that its sheet has.
 fn check_with(settings: format::Settings, packet: &[u8]) -> Answer
     ensures { λ a. ⌜ a ≡ readingAnswer settings (now (packet .entry)) (length (sheetOf settings (now (packet .entry)))) ⌝ }
 {

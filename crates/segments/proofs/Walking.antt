@@ -18,20 +18,19 @@ use Rattle.mask.proofs.FullWidth.{full-bytes}
 use Rattle.format.specs.declared.Reading.{Reading}
 use Rattle.format.specs.declared.Check.{Check}
 use Rattle.format.specs.declared.Check.the-variants.{Passed, Failed}
-use Rattle.format.specs.declared.Answer.{Answer}
 use Rattle.format.specs.declared.Answer.the-variants.{Accepted, Refused}
 use Rattle.format.specs.Packet.{Segment, typeAt, sizeAt, bodyAt, segmentAt}
 use Rattle.format.specs.Dwell.{maskOf, dwellFields, targetCount}
-use Rattle.format.specs.Sheet.{pieceCount, segmentRecords, packetRecords, recordBytes}
+use Rattle.format.specs.Sheet.{segmentRecords, packetRecords, recordBytes}
 use Rattle.format.specs.Lengths.{recordLength}
 use Rattle.format.specs.Rows.{firstRow, bodyRows, segmentRows}
 use Rattle.format.specs.Reader.{Parsed, parse, dwellsIn, targetsIn}
-use Rattle.format.proofs.Types.{by-number}
 use Rattle.format.proofs.Rows.{segment-passes}
 use Rattle.format.proofs.ByType.{rows-as}
 use Rattle.format.proofs.Dwells.{is-dwell}
 use Rattle.format.proofs.Segments.{length-body, part-is}
-use Rattle.format.proofs.Lengths.{bytes-append, recordsOf, length-segment}
+use Rattle.format.proofs.Lengths.{bytes-append}
+use Rattle.format.proofs.Longest.{segment-short}
 use Rattle.format.proofs.Turns.{parse-good, parse-bad, parse-end}
 use Rattle.format.proofs.Filling.{Handed, handedBody}
 use Rattle.segments.specs.declared.Dwells.{Dwells}
@@ -126,14 +125,6 @@ count-lt b h = be-lt 2 _ (drop-bytes 5 (fullFields (maskOf b) 2 dwellWidths (dro
 abbrev pub most : ℕ
 most = recordLength 3 + 65536 * recordLength 4
 
--- the records of a segment of at most 65,536 bytes
-records-le : (type : ℕ) (b : List ℕ) → length b ≤ 65536 → targetCount b < 65536 → recordsOf type b ≤ most
-unfolding pieceCount
-records-le type b h t =
-    by-number (λ (k : ℕ). recordsOf k b ≤ most) (omega arith) (omega arith) (omega arith) (omega arith) (omega arith) (omega arith)
-    (λ k h1 h2 h5 h6 h10 h13. rw (h1, h2, h5, h6, h10, h13) (omega arith))
-    type
-
 -- the bounds that the walk's sums are proved by
 pub record Fit (l : List ℕ) (size targets n : ℕ) : Type 0 where
   pub header : 5 ≤ size
@@ -152,7 +143,7 @@ fit r l z t n h b g =
       header = omega (arith, s .header, g .size-is);
       within = omega (arith, s .within, g .size-is);
       few = omega (arith, g .targets-is, choice (eqb (typeAt l) 2) (targetCount (bodyAt l)) (omega arith));
-      short = omega (arith, g .length-is, length-segment r (typeAt l) (bodyAt l), records-le (typeAt l) (bodyAt l) m c);
+      short = omega (arith, g .length-is, segment-short r (segmentAt l) (s .body));
     }
   where
     choice : (x : Bool) (m : ℕ) → m ≤ 65535 → cond x m 0 ≤ 65535

@@ -1,13 +1,14 @@
 // The rows of each segment, and the walk that checks them all before anything is written.
 ghost use mathlib.Core.Path.{_≡_};
-ghost use Prim.Native.Nat.{_*_, _≤_};
+ghost use Prim.Native.Nat.{_+_, _*_, _≤_};
 ghost use lib.ListN.{length};
 ghost use lib.Seq.{sets};
 ghost use Rattle.format.specs.declared.Check.the-variants.{Passed};
+ghost use Rattle.hrr.specs.Hrr.{hrrMask, hrrFields, scattererCount};
 ghost use Rattle.format.specs.Packet.{isKnown, typeAt, sizeAt, bodyAt};
 ghost use Rattle.format.specs.Sheet.{pieceCount};
 ghost use Rattle.format.specs.Lengths.{recordLength};
-ghost use Rattle.format.specs.Rows.{firstRow, bodyRows, segmentRows};
+ghost use Rattle.format.specs.Rows.{firstRow, hrrRows, bodyRows, segmentRows};
 ghost use Rattle.format.specs.Reader.{dwellsIn};
 ghost use Rattle.segments.specs.InnerWalk.{Checked, bytesOf, targetsOfType, foundAt, pairNumbers, noDwells, pastPair, past, pastAll, AtMost, longestRest, mostDwells, CheckedAll, segmentsOf, restAnswer};
 use format::Answer;
@@ -29,6 +30,13 @@ fn body_check(r: format::Reading, segment_type: u8, b: &[u8]) -> Check
     match segment_type {
         1 => checks::mission_check(b),
         2 => dwell_checks::dwell_check(r, b),
+        3 => {
+            if editions::is_hrr_read(r) {
+                hrr_checks::hrr_check(b)
+            } else {
+                Check::Passed
+            }
+        }
         5 => checks::job_check(r, b),
         6 => checks::text_check(b),
         10 => checks::kept_check(format::TestRecord::LEN, b),
@@ -86,6 +94,23 @@ fn targets_in(r: format::Reading, segment_type: u8, b: &[u8]) -> usize
     }
 }
 
+// The bytes that the records of an opaque segment take on the sheet.
+fn opaque_length(b: &[u8]) -> usize
+    requires { ⌜ length (now b) ≤ 65536 ⌝ }
+    ensures { λ n. ⌜ n ≡ recordLength 7 + pieceCount (length (now (b .entry))) * recordLength 6 ⌝ }
+{
+    format::OpaqueRecord::WHOLE + pieces_length(b.len())
+}
+
+// And of an HRR segment to whose body b no row applies.
+fn hrr_length(b: &[u8]) -> usize
+    requires { ⌜ firstRow (hrrRows (now b)) ≡ Passed ⌝ }
+    ensures { λ n. ⌜ n ≡ recordLength 11 + scattererCount (hrrMask (now (b .entry))) (hrrFields (now (b .entry))) * recordLength 12 ⌝ }
+{
+    let s = hrr_checks::scatterers_in(b);
+    format::HrrRecord::WHOLE + s.count * format::ScattererRecord::WHOLE
+}
+
 // The bytes that the records of a segment take on the sheet, by its type.
 pub fn records_length(r: format::Reading, segment_type: u8, b: &[u8]) -> usize
     requires { ⌜ Checked r «segment_type» (now b) ⌝ }
@@ -95,11 +120,18 @@ pub fn records_length(r: format::Reading, segment_type: u8, b: &[u8]) -> usize
         1 => format::MissionRecord::WHOLE,
         2 => format::DwellRecord::WHOLE
             + targets_in(r, segment_type, b) * format::TargetRecord::WHOLE,
+        3 => {
+            if editions::is_hrr_read(r) {
+                hrr_length(b)
+            } else {
+                opaque_length(b)
+            }
+        }
         5 => format::JobRecord::WHOLE,
         6 => format::TextRecord::WHOLE + pieces_length(b.len() - format::TextRecord::F3),
         10 => format::TestRecord::WHOLE,
         13 => format::LocationRecord::WHOLE,
-        _ => format::OpaqueRecord::WHOLE + pieces_length(b.len()),
+        _ => opaque_length(b),
     }
 }
 

@@ -17,15 +17,18 @@ use Rattle.mask.proofs.FullWidth.{length-announced}
 use Rattle.format.specs.Dwell.{targetLength}
 use Rattle.format.specs.Sheet.{bodyLengths, bodyLength}
 use Rattle.format.specs.Writer.{calledFor, typeOf, given}
-use Rattle.sheet_walk.specs.InnerShape.{eachTakes, leadOf}
+use Rattle.hrr.specs.Hrr.{hrrMask, hrrWidths}
+use Rattle.hrr.specs.declared.Scatterers.{Scatterers}
+use Rattle.hrr.specs.InnerScatterers.{widthsOf}
+use Rattle.sheet_walk.specs.InnerShape.{scatterersBehind, eachTakes, leadOf}
 
 -- the longest body is a dwell's: computed for every kind
 pub body-bound : (kind : ℕ) → bodyLength kind ≤ 87
 unfolding bodyLength
-body-bound kind = go (ltb kind 11) refl
+body-bound kind = go (ltb kind 13) refl
   where
-    go : (b : Bool) → ltb kind 11 ≡ b → bodyLength kind ≤ 87
-    go true h = leb→le _ _ (from-all (λ n. leb (bodyLength n) 87) 11 0 tt kind zero-le (ltb-true _ _ h))
+    go : (b : Bool) → ltb kind 13 ≡ b → bodyLength kind ≤ 87
+    go true h = leb→le _ _ (from-all (λ n. leb (bodyLength n) 87) 13 0 tt kind zero-le (ltb-true _ _ h))
     go false h = omega (arith, List·getD-eq-default bodyLengths 0 {n = kind} (ltb-false _ _ h))
 
 -- a dwell's
@@ -43,6 +46,21 @@ module _ (b : List ℕ) (size : length b ≡ bodyLength 3) where
   unfolding leadOf typeOf calledFor eachTakes value total
   dwell-lead m d t u p q v w = rw (w, q, p, v, dwell-given, drop-drop 5 8 b)
 
+-- an HRR segment's
+module _ (b : List ℕ) (size : length b ≡ bodyLength 11) where
+  -- it gives the mask and the announced fields
+  pub hrr-given : length (given (record { kind = 11; body = b })) ≡ 5 + announcedLength (hrrMask b) 2 hrrWidths
+  unfolding given bodyLength total
+  hrr-given =
+      let n : 61 ≤ length (drop 5 b) = omega (arith, length-drop 5 b) in
+      length-append (take 5 b) (announcedFields (hrrMask b) 2 hrrWidths (drop 5 b))
+      ∙ omega (arith, length-take-le 5 b (omega arith), length-announced (hrrMask b) 2 hrrWidths (drop 5 b) n)
+
+  pub hrr-lead : (d u : ℕ) (s : Scatterers) → d ≡ announcedLength (hrrMask b) 2 hrrWidths → s ≡ scatterersBehind b → u ≡ total (widthsOf s)
+      → record { «segment_type» = 3; given = 5 + d; follower = 12; left = s .count; each = u } ≡ leadOf (record { kind = 11; body = b })
+  unfolding leadOf typeOf calledFor eachTakes
+  hrr-lead d u s q p w = rw (w, q, p, hrr-given)
+
 module _ (b : List ℕ) where
   -- a text's, without the length of F3
   pub text-lead : length b ≡ bodyLength 5 → (n : ℕ) → n ≡ be 4 (drop 20 b) → record { «segment_type» = 6; given = 20; follower = 6; left = n; each = 1 } ≡ leadOf (record { kind = 5; body = b })
@@ -55,8 +73,8 @@ module _ (b : List ℕ) where
   job-lead size = rw (length-take-le 68 b (omega arith))
 
   -- one whose kind says no type
-  pub other-lead : (kind : ℕ) → (kind ≡ 2 → ⊥) → (kind ≡ 3 → ⊥) → (kind ≡ 5 → ⊥) → (kind ≡ 7 → ⊥) → (kind ≡ 8 → ⊥) → (kind ≡ 9 → ⊥) → (kind ≡ 10 → ⊥)
+  pub other-lead : (kind : ℕ) → (kind ≡ 2 → ⊥) → (kind ≡ 3 → ⊥) → (kind ≡ 5 → ⊥) → (kind ≡ 7 → ⊥) → (kind ≡ 8 → ⊥) → (kind ≡ 9 → ⊥) → (kind ≡ 10 → ⊥) → (kind ≡ 11 → ⊥)
       → record { «segment_type» = getD b 0 0; given = length b; follower = 0; left = 0; each = 1 } ≡ leadOf (record { kind = kind; body = b })
   unfolding leadOf typeOf given calledFor eachTakes
-  other-lead kind h2 h3 h5 h7 h8 h9 h10 =
-      rw (ne-eqb kind 2 h2, ne-eqb kind 3 h3, ne-eqb kind 5 h5, ne-eqb kind 7 h7, ne-eqb kind 8 h8, ne-eqb kind 9 h9, ne-eqb kind 10 h10)
+  other-lead kind h2 h3 h5 h7 h8 h9 h10 h11 =
+      rw (ne-eqb kind 2 h2, ne-eqb kind 3 h3, ne-eqb kind 5 h5, ne-eqb kind 7 h7, ne-eqb kind 8 h8, ne-eqb kind 9 h9, ne-eqb kind 10 h10, ne-eqb kind 11 h11)

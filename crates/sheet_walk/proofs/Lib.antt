@@ -1,3 +1,4 @@
 pub mod Places
 pub mod Headed
 pub mod Leads
+pub mod Runs

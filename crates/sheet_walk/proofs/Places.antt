@@ -53,7 +53,7 @@ more x at n h e p f =
     }
 
 -- the law
-known : (x : List ℕ) (at : ℕ) → Known x at (placeAt x at)
+pub known : (x : List ℕ) (at : ℕ) → Known x at (placeAt x at)
 unfolding placeAt
 known x at = go (ltb at (length x)) (ltb 0 n) (leb n (length x - at - 1)) refl refl refl
   where

@@ -1,17 +1,22 @@
 -- The records of a sheet as code goes through them: what is at a place, and what the record says that begins a segment.
 -- Assumes nothing.
-use Prim.Native.Nat.{ℕ, _+_, _-_, _*_, _≤_}
+use Prim.Native.Nat.{ℕ, _+_, _-_, _*_, _≤_, _<_}
 use mathlib.Core.Path.{_≡_}
 use mathlib.Core.Bool.{Bool, true, _&&_, cond}
 use mathlib.Core.List.{List}
 use lib.Dec.{ltb, leb, eqb}
-use lib.ListN.{length, getD}
+use lib.ListN.{length, getD, drop}
 use Rattle.octets.specs.Octets.{be}
+use Rattle.octets.specs.Layout.{total}
+use Rattle.hrr.specs.Hrr.{hrrMask}
+use Rattle.hrr.specs.declared.Scatterers.{Scatterers}
+use Rattle.hrr.specs.InnerScatterers.{scatterersOf, widthsOf, speltOf}
 use Rattle.sheet_walk.specs.declared.Place.{Place}
 use Rattle.sheet_walk.specs.declared.Place.the-variants.{Whole, End, Cut}
 use Rattle.sheet_walk.specs.declared.Lead.{Lead}
 use Rattle.format.specs.Dwell.{targetLength}
 use Rattle.format.specs.Sheet.{Record, bodyLength}
+use Rattle.format.specs.Lengths.{recordLength}
 use Rattle.format.specs.Writer.{Listed, listed, noHeader, isHeaded, due, calledFor, isComplete, typeOf, given}
 
 -- what is at a place of any bytes: "one byte of kind, then a body whose length the kind fixes"
@@ -31,9 +36,21 @@ isRest l = l .whole && noHeader (l .records)
 abbrev pub Shaped : List ℕ → Type 0
 Shaped x = (isSheet (listed x) ≡ true) × (isComplete (due 0 0) (listed x .records) ≡ true)
 
--- how many bytes of the packet each of those takes that a record calls for: a target its announced fields, a byte of a piece one
+-- the scatterers behind a record of kind 11 with this body: each number of them takes at most the two bytes that it has on the sheet
+abbrev pub scatterersBehind : List ℕ → Scatterers
+scatterersBehind b = speltOf (scatterersOf (hrrMask b) (drop 5 b))
+
+-- how many bytes of the packet each of those takes that a record calls for: a target its announced fields, a scatterer its numbers, a byte of
+-- a piece one
 unfoldable pub eachTakes : Record → ℕ
-eachTakes r = cond (eqb (calledFor r .kind) 4) (targetLength (be 8 (r .body))) 1
+eachTakes r =
+    cond (eqb (calledFor r .kind) 4) (targetLength (be 8 (r .body)))
+    (cond (eqb (calledFor r .kind) 12) (total (widthsOf (scatterersBehind (r .body)))) 1)
+
+-- x begins with n scatterers' records
+pub record BeginsWith (n : ℕ) (x : List ℕ) : Type 0 where
+  pub long : n * recordLength 12 ≤ length x
+  pub kinds : (i : ℕ) → i < n → getD x (i * recordLength 12) 0 ≡ 12
 
 -- what a record says that begins a segment
 unfoldable pub leadOf : Record → Lead

@@ -1,15 +1,16 @@
 // The records of a sheet: the one at a place, what the one says that begins a segment, and how much those have that follow it.
 ghost use mathlib.Core.Path.{_≡_};
-ghost use mathlib.Core.Bool.{_||_};
-ghost use Prim.Native.Nat.{_≤_};
+ghost use mathlib.Core.Bool.{true, _||_, cond};
+ghost use Prim.Native.Nat.{_≤_, min};
 ghost use lib.Dec.{eqb};
 ghost use lib.ListN.{length, drop};
+ghost use Rattle.hrr.specs.InnerScatterers.{Narrow};
 ghost use Rattle.format.specs.Sheet.{bodyLength};
 ghost use Rattle.format.specs.Writer.{listed, due, share as shareOf, carried as carriedBy};
-ghost use Rattle.sheet_walk.specs.InnerShape.{placeAt, isRest, leadOf, sizeBy, Bounded};
+ghost use Rattle.sheet_walk.specs.InnerShape.{placeAt, isRest, scatterersBehind, leadOf, sizeBy, Bounded, BeginsWith};
 
 // The kinds are the numbers below this one, without 0.
-const KINDS: u8 = format::LocationRecord::KIND + 1;
+const KINDS: u8 = format::ScattererRecord::KIND + 1;
 
 // The length of the body of each kind of record, from 0, which is no kind. One byte each: where it is used, the table is stored anew.
 const BODY_LENGTHS: [u8; KINDS as usize] = [
@@ -24,6 +25,8 @@ const BODY_LENGTHS: [u8; KINDS as usize] = [
     format::JobRecord::LEN as u8,
     format::TestRecord::LEN as u8,
     format::LocationRecord::LEN as u8,
+    format::HrrRecord::LEN as u8,
+    format::ScattererRecord::LEN as u8,
 ];
 
 // A byte as a wider number: where it is used, no proof is asked that it fits.
@@ -100,11 +103,17 @@ pub fn is_rest(x: &[u8], start: usize) -> bool
     }
 }
 
-// Whether a record of the kind follows another one: a target or a piece.
+// Whether a record of the kind follows another one: a target, a piece or a scatterer.
 pub fn is_follower(kind: u8) -> bool
-    ensures { λ r. ⌜ r ≡ (eqb kind 4 || eqb kind 6) ⌝ }
+    ensures { λ r. ⌜ r ≡ (eqb kind 4 || eqb kind 6 || eqb kind 12) ⌝ }
 {
-    kind == format::TargetRecord::KIND || kind == format::PieceRecord::KIND
+    if kind == format::TargetRecord::KIND {
+        return true;
+    }
+    if kind == format::PieceRecord::KIND {
+        return true;
+    }
+    kind == format::ScattererRecord::KIND
 }
 
 // What a record says that begins a segment.
@@ -165,6 +174,62 @@ fn with_targets(b: &[u8]) -> Lead
     }
 }
 
+// The bytes that a number of this width takes when it is spelt from its two bytes on the sheet.
+fn spelt(w: usize) -> usize
+    ensures { λ r. ⌜ r ≡ min 2 w ⌝ }
+{
+    if w < 2 { w } else { 2 }
+}
+
+// The scatterers behind a record of kind 11, whose body is b: so many, and the bytes that each number of them takes when it is spelt, at most
+// the two that it has on the sheet.
+pub fn scatterers_behind(b: &[u8]) -> hrr::Scatterers
+    requires { ⌜ length (now b) ≡ bodyLength 11 ⌝ }
+    ensures { λ s. ⌜ (s ≡ scatterersBehind (now (b .entry))) × (s .count ≤ 4294836225) × Narrow s ⌝ }
+{
+    let s = hrr::scatterers_of(hrr::mask_of(b), &b[format::HrrRecord::FIELDS..]);
+    hrr::Scatterers {
+        magnitude: spelt(s.magnitude),
+        phase: spelt(s.phase),
+        range: spelt(s.range),
+        doppler: spelt(s.doppler),
+        count: s.count,
+    }
+}
+
+// An HRR record, with its scatterers behind it.
+fn with_scatterers(b: &[u8]) -> Lead
+    requires { ⌜ length (now b) ≡ bodyLength 11 ⌝ }
+    ensures { λ r. ⌜ Bounded r ⌝ }
+    ensures { λ r. ⌜ r ≡ leadOf (record { kind = 11; body = now (b .entry) }) ⌝ }
+{
+    let s = scatterers_behind(b);
+    Lead {
+        segment_type: 3,
+        given: hrr::MASK + hrr::fields_length(hrr::mask_of(b)),
+        follower: format::ScattererRecord::KIND,
+        left: s.count,
+        each: s.magnitude + s.phase + s.range + s.doppler,
+    }
+}
+
+// Whether x begins with so many scatterers.
+pub fn are_scatterers(x: &[u8], count: usize) -> bool
+    ensures { λ r. ⌜ (r ≡ true → BeginsWith count (now (x .entry))) × (BeginsWith count (now (x .entry)) → r ≡ true) ⌝ }
+{
+    if x.len() / format::ScattererRecord::WHOLE < count {
+        return false;
+    }
+    let mut at: usize = 0;
+    for i in 0..count {
+        if x[at] != format::ScattererRecord::KIND {
+            return false;
+        }
+        at += format::ScattererRecord::WHOLE;
+    }
+    true
+}
+
 // By the record's kind.
 pub fn lead_of(kind: u8, b: &[u8]) -> Lead
     requires { ⌜ (length (now b) ≡ bodyLength kind) × (1 ≤ length (now b)) ⌝ }
@@ -185,6 +250,7 @@ pub fn lead_of(kind: u8, b: &[u8]) -> Lead
         format::JobRecord::KIND => alone(5, format::JobRecord::MARK),
         format::TestRecord::KIND => alone(10, b.len()),
         format::LocationRecord::KIND => alone(13, b.len()),
+        format::HrrRecord::KIND => with_scatterers(b),
         _ => alone(b[0], b.len()),
     }
 }

@@ -1,5 +1,8 @@
+pub mod Narrow
 pub mod Followers
 pub mod Regrouped
+pub mod Scattered
 pub mod Surveyed
 pub mod Stored
+pub mod Nexts
 pub mod Walk

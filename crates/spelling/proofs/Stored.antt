@@ -1,6 +1,6 @@
 -- What the code stores for a record is what the record adds to the packet.
 -- Assumes nothing.
-use mathlib.Core.Path.{_≡_, refl, ap, ap₂, _∙_}
+use mathlib.Core.Path.{_≡_, refl, sym, ap, ap₂, _∙_}
 use mathlib.Core.Bool.{Bool, true, false, cond}
 use mathlib.Core.List.{List, [], _∷_, _++_}
 use Prim.Native.Nat.{ℕ, zero, suc, _+_, _≤_, zero-le}
@@ -9,7 +9,7 @@ use native.Mathlib.Omega.{arith}
 use borrow.Author.Tests.{ne-eqb}
 use lib.Dec.{eqb}
 use lib.ListN.{length, getD, take, drop, length-drop}
-use lib.Seq.{sets, length-take-le, take-length}
+use lib.Seq.{sets, length-take-le, take-length, take-add}
 use Rattle.octets.specs.Octets.{be, bytes}
 use Rattle.octets.specs.Layout.{total}
 use Rattle.octets.proofs.Laws.{length-bytes, then}
@@ -20,7 +20,8 @@ use Rattle.format.specs.Lengths.{recordLength}
 use Rattle.format.specs.Writer.{given, givenBehind}
 use Rattle.sheet_walk.specs.declared.Lead.{Lead}
 use Rattle.sheet_walk.specs.InnerShape.{leadOf, sizeBy}
-use Rattle.sheet_walk.proofs.Leads.{dwell-given}
+use Rattle.hrr.specs.Hrr.{hrrMask, hrrWidths}
+use Rattle.sheet_walk.proofs.Leads.{dwell-given, hrr-given}
 use Rattle.spelling.specs.InnerSpelling.{sizeOf, begun, spelt, recordIn, leading}
 
 -- ---- what a record gives that begins a segment
@@ -36,11 +37,21 @@ front (suc k) (y ∷ b) =
     let f = front k b in
     (omega arith, ap (λ (z : List ℕ). y ∷ z) (f .1))
 
+-- a mask of k bytes and behind it the fields that it announces
+masked-stored : (k : ℕ) (ws b : List ℕ) (mask n : ℕ) → mask ≡ n → (o : List ℕ) {x w : List ℕ} → k ≤ length b
+    → x ≡ sets o 0 (take k b) → w ≡ sets x k (announcedFields mask 2 ws (drop k b)) → w ≡ sets o 0 (take k b ++ announcedFields n 2 ws (drop k b))
+masked-stored k ws b mask n m o {x} {w} h hx hw =
+    then (take k b) (announcedFields mask 2 ws (drop k b)) o 0 k hx (length-take-le k b h) (hw ∙ ap (λ (i : ℕ). sets x i (announcedFields mask 2 ws (drop k b))) start)
+    ∙ ap (λ (i : ℕ). sets o 0 (take k b ++ announcedFields i 2 ws (drop k b))) m
+  where
+    start : k ≡ 0 + k
+    start = omega arith
+
 module _ (kind : ℕ) (b : List ℕ) where
   -- where no field is left out by a mask, the front of the body
-  pub copied : (kind ≡ 3 → ⊥) → Front (given (recordIn kind b)) b
+  pub copied : (kind ≡ 3 → ⊥) → (kind ≡ 11 → ⊥) → Front (given (recordIn kind b)) b
   unfolding given
-  copied h = rw (ne-eqb kind 3 h) (go (eqb kind 5) (eqb kind 7) (eqb kind 8))
+  copied h i = rw (ne-eqb kind 3 h, ne-eqb kind 11 i) (go (eqb kind 5) (eqb kind 7) (eqb kind 8))
     where
       go : (s t u : Bool) → Front (cond s (take 20 b) (cond t [] (cond u (take 68 b) b))) b
       go true t u = front 20 b
@@ -61,9 +72,23 @@ module _ (kind : ℕ) (b : List ℕ) where
         → x ≡ sets o 0 (take 8 b) → w ≡ sets x 8 (announcedFields mask 2 dwellWidths (drop 8 b)) → w ≡ sets o 0 (given (recordIn kind b))
     unfolding given
     dwell-stored mask m o hx hw =
-        rw e
-        (then (take 8 b) (announcedFields mask 2 dwellWidths (drop 8 b)) o 0 8 hx (length-take-le 8 b (omega (arith, dwell-long))) hw
-        ∙ ap (λ (n : ℕ). sets o 0 (take 8 b ++ announcedFields n 2 dwellWidths (drop 8 b))) m)
+        rw e (masked-stored 8 dwellWidths b mask (be 8 b) m o (omega (arith, dwell-long)) hx hw)
+
+  -- so does an HRR segment
+  module _ (size : length b ≡ bodyLength kind) (e : kind ≡ 11) where
+    pub hrr-long : length b ≡ 66
+    unfolding bodyLength
+    hrr-long = size ∙ ap bodyLength e
+
+    pub hrr-length : length (given (recordIn kind b)) ≡ 5 + announcedLength (hrrMask b) 2 hrrWidths
+    hrr-length = rw e (hrr-given b (size ∙ ap bodyLength e))
+
+    pub hrr-stored : (mask : ℕ) → mask ≡ hrrMask b → (o : List ℕ) {v x w : List ℕ}
+        → v ≡ sets o 0 (take 4 b) → x ≡ sets v 4 (take 1 (drop 4 b)) → w ≡ sets x 5 (announcedFields mask 2 hrrWidths (drop 5 b)) → w ≡ sets o 0 (given (recordIn kind b))
+    unfolding given
+    hrr-stored mask m o hv hx hw =
+        let five = then (take 4 b) (take 1 (drop 4 b)) o 0 4 hv (length-take-le 4 b (omega (arith, hrr-long))) hx ∙ ap (sets o 0) (sym (take-add 4 1 b)) in
+        rw e (masked-stored 5 hrrWidths b mask (hrrMask b) m o (omega (arith, hrr-long)) five hw)
 
 -- ---- with the segment's header
 
@@ -87,9 +112,9 @@ module _ (r : Record) (l : Lead) (e : l ≡ leadOf r) where
 
 module _ (leader : List ℕ) (kind : ℕ) (b : List ℕ) where
   -- one that begins a segment
-  pub leader-spelt : (kind ≡ 4 → ⊥) → (kind ≡ 6 → ⊥) → begun (recordIn kind b) ≡ spelt (leading leader) (recordIn kind b)
+  pub leader-spelt : (kind ≡ 4 → ⊥) → (kind ≡ 6 → ⊥) → (kind ≡ 12 → ⊥) → begun (recordIn kind b) ≡ spelt (leading leader) (recordIn kind b)
   unfolding spelt
-  leader-spelt t p = rw (ne-eqb kind 4 t, ne-eqb kind 6 p)
+  leader-spelt t p s = rw (ne-eqb kind 4 t, ne-eqb kind 6 p, ne-eqb kind 12 s)
 
   -- a target its announced fields
   pub target-spelt : kind ≡ 4 → (mask : ℕ) → mask ≡ be 8 leader → announcedFields mask 32 targetWidths b ≡ spelt (leading leader) (recordIn kind b)

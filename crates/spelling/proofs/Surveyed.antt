@@ -2,27 +2,30 @@
 -- Assumes nothing.
 use mathlib.Core.Path.{_≡_, refl, sym, ap, subst, _∙_}
 use mathlib.Core.Bool.{Bool, true, false, not, _&&_, _||_, cond, and-false, true≢false}
+use mathlib.Core.Logic.{inl, inr}
 use mathlib.Core.List.{List, [], _++_}
-use Prim.Native.Nat.{ℕ, _+_, _-_, _≤_, _<_}
+use Prim.Native.Nat.{ℕ, zero, suc, _+_, _-_, _*_, _≤_, _<_}
 use native.Mathlib.Nat.{zero-mul}
 use native.Mathlib.Omega.{arith}
 use borrow.Author.Tests.{lt-ltb, le-ltb, ltb-true, eq-eqb, ne-eqb, eqb-true, eqb-false}
 use lib.Dec.{ltb, eqb, lit≤}
 use lib.ListN.{length, drop, length-append, length-take, length-drop, drop-of-length-le}
 use Rattle.format.specs.Sheet.{Record, bodyLength}
+use Rattle.format.specs.Lengths.{recordLength}
 use Rattle.format.specs.Writer.{Listed, listed, noHeader, isHeaded, Due, due, calledFor, isFollower, share, carried, isComplete, regroup, segmentsBytes, spellRecords, spell}
 use Rattle.format.proofs.Listing.{listed-formed, before}
 use Rattle.sheet_walk.specs.declared.Place.{Place}
 use Rattle.sheet_walk.specs.declared.Place.the-variants.{Whole, End, Cut}
 use Rattle.sheet_walk.specs.declared.Lead.{Lead}
-use Rattle.sheet_walk.specs.InnerShape.{placeAt, isSheet, isRest, Shaped, eachTakes, leadOf, sizeBy}
+use Rattle.sheet_walk.specs.InnerShape.{placeAt, isSheet, isRest, Shaped, eachTakes, leadOf, sizeBy, BeginsWith}
 use Rattle.sheet_walk.proofs.Places.{cutAt, WholeAt, Known, at-place}
+use Rattle.sheet_walk.proofs.Runs.{first-scatterer}
 use Rattle.sheet_walk.proofs.Headed.{header-first, other-first, header-again}
 use Rattle.spelling.specs.declared.Survey.{Survey}
 use Rattle.spelling.specs.declared.Survey.the-variants.{Unlisted, Incomplete, Spells}
 use Rattle.spelling.specs.declared.Counted.{Counted}
 use Rattle.spelling.specs.declared.Counted.the-variants.{Then, Misplaced}
-use Rattle.spelling.specs.InnerSpelling.{sizeOf, speltAll, capped, headerEnd, surveyed, counted}
+use Rattle.spelling.specs.InnerSpelling.{sizeOf, speltAll, capped, headerEnd, surveyed, counted, Passes}
 use Rattle.spelling.proofs.Followers.{by-call}
 use Rattle.spelling.proofs.Regrouped.{sizes, Told, told}
 
@@ -105,7 +108,7 @@ surveyThen Misplaced l = cond (isRest l) Incomplete Unlisted
 
 -- only followers are due
 abbrev pub Due-follows : ℕ → ℕ → Type 0
-Due-follows kind left = 0 < left → (eqb kind 4 || eqb kind 6) ≡ true
+Due-follows kind left = 0 < left → (eqb kind 4 || eqb kind 6 || eqb kind 12) ≡ true
 
 -- behind the header
 pub survey-start : (x : List ℕ) (end : ℕ) → WholeAt x 0 1 end → surveyed x ≡ surveyFrom (due 0 0) 32 (listed (drop end x))
@@ -140,7 +143,7 @@ module _ (d : Due) (sum : ℕ) (r : Record) (p : Due-follows (d .kind) (d .left)
           let e : capped (sum + (0 + sizes (l .records))) ≡ capped (sum + sizes (l .records)) = omega arith in
           rw e
       go true true true false t a f =
-          let e : (eqb (r .kind) 4 || eqb (r .kind) 6) ≡ true = rw (eqb-true (r .kind) (d .kind) a) (p (ltb-true 0 (d .left) t)) in
+          let e : (eqb (r .kind) 4 || eqb (r .kind) 6 || eqb (r .kind) 12) ≡ true = rw (eqb-true (r .kind) (d .kind) a) (p (ltb-true 0 (d .left) t)) in
           absurd (true≢false (sym e ∙ f))
       go true true false f' t a f = refl
       go true false b f' t a f = refl
@@ -159,7 +162,7 @@ module _ (d : Due) (sum : ℕ) (r : Record) (p : Due-follows (d .kind) (d .left)
   kept h = go (ltb 0 (d .left)) (eqb (r .kind) (d .kind) && eqb (carried r) (share d)) (isFollower r) refl
     where
       called : Due-follows (calledFor r .kind) (calledFor r .left)
-      called = by-call (λ (q : Due). Due-follows (q .kind) (q .left)) r (λ _ _ _. refl) (λ _ _. refl) (λ z. absurd (omega arith))
+      called = by-call (λ (q : Due). Due-follows (q .kind) (q .left)) r (λ _ _ _. refl) (λ _ _. refl) (λ _ _ _. refl) (λ z. absurd (omega arith))
 
       go : (t a f : Bool) → ltb 0 (d .left) ≡ t
           → Kept (cond t (cond a (Then (d .kind) (d .left - share d) sum) Misplaced) (cond f Misplaced (Then (calledFor r .kind) (calledFor r .left) (capped (sum + sizeOf r)))))
@@ -244,6 +247,36 @@ module _ (x : List ℕ) (at kind left sum : ℕ) (i : Walked x at kind left sum)
     turn n f l s e =
         let kept-here : Due-follows f l × (s ≤ 65537) = rw (sym e) at (kept (due kind left) sum (cutAt x at k end) (i .follows) (i .short)) in
         record { short = kept-here .1; follows = kept-here .0; rest = onward n e }
+
+-- past all the scatterers that are due at once
+pub past-scatterers : (x : List ℕ) (n at sum : ℕ) → at ≤ length x → Walked x at 12 n sum → BeginsWith n (drop at x) → Walked x (at + n * recordLength 12) 12 0 sum
+past-scatterers x zero at sum h i b =
+    let e : at ≡ at + 0 * recordLength 12 = omega arith in
+    rw e at i
+past-scatterers x (suc n) at sum h i b =
+    let first = first-scatterer x n at h b in
+    let end = at + recordLength 12 in
+    let here = cutAt x at 12 end in
+    let left : suc n - 1 ≡ n = omega arith in
+    let e : end + n * recordLength 12 ≡ at + suc n * recordLength 12 = omega arith in
+    let counted-one : Then 12 n sum ≡ counted (due 12 (suc n)) sum here =
+    sym (count-follower (due 12 (suc n)) sum here (omega arith) refl refl ∙ ap (λ (k : ℕ). Then 12 k sum) left) in
+    rw e at (past-scatterers x n end sum (first .0 .fits) (turn x at 12 (suc n) sum i 12 end (first .0) (λ z. omega arith) 12 n sum counted-one) (first .1))
+
+-- past as many as are passed at once
+pub passed-bound : {follower left n : ℕ} {y : List ℕ} → Passes follower left y n → (n ≤ left) × (n * recordLength 12 ≤ length y)
+passed-bound (inl z) = (omega arith, omega arith)
+passed-bound (inr p) = (omega (arith, p .0), omega (arith, p .0, p .2 .long))
+
+pub past-passed : (x : List ℕ) (at follower left sum n : ℕ) → at ≤ length x → Walked x at follower left sum → Passes follower left (drop at x) n
+    → Walked x (at + n * recordLength 12) follower (left - n) sum
+past-passed x at follower left sum n h i (inl z) =
+    let e : at ≡ at + n * recordLength 12 = omega arith in
+    let f : left ≡ left - n = omega arith in
+    rw f at (rw e at i)
+past-passed x at follower left sum n h i (inr p) =
+    let f : 0 ≡ left - n = omega (arith, p .0) in
+    rw (p .1, sym f, p .0) (past-scatterers x left at sum h (rw (p .1) at i) (p .2))
 
 -- ---- what is found of a sheet, said of the rows
 

@@ -4,15 +4,19 @@
 use Prim.Native.Nat.{ℕ, _+_, _-_, _*_, _≤_, min}
 use mathlib.Core.Path.{_≡_}
 use mathlib.Core.Bool.{_&&_, cond}
+use mathlib.Core.Logic.{_⊎_}
 use mathlib.Core.List.{List, [], _∷_, _++_}
 use lib.Dec.{ltb, eqb}
 use lib.ListN.{length, getD}
 use Rattle.octets.specs.Octets.{bytes}
+use Rattle.hrr.specs.InnerScatterers.{widthsOf}
+use Rattle.pack_hrr.specs.InnerNarrowed.{narrowedAll}
 use Rattle.format.specs.Sheet.{Record, bodyLength}
+use Rattle.format.specs.Lengths.{recordLength}
 use Rattle.format.specs.Writer.{listed, Due, due, calledFor, isFollower, share, carried, isComplete, typeOf, given, givenBehind, spell}
 use Rattle.sheet_walk.specs.declared.Place.{Place}
 use Rattle.sheet_walk.specs.declared.Place.the-variants.{Whole, End, Cut}
-use Rattle.sheet_walk.specs.InnerShape.{isSheet, eachTakes}
+use Rattle.sheet_walk.specs.InnerShape.{isSheet, scatterersBehind, eachTakes, BeginsWith}
 use Rattle.spelling.specs.declared.Survey.{Survey}
 use Rattle.spelling.specs.declared.Survey.the-variants.{Unlisted, Incomplete, Spells}
 use Rattle.spelling.specs.declared.Counted.{Counted}
@@ -33,6 +37,17 @@ begun r = typeOf r ∷ (bytes 4 (sizeOf r) ++ given r)
 -- the bytes that a record adds to the packet
 unfoldable pub spelt : Record → Record → List ℕ
 spelt leader r = cond (isFollower r) (givenBehind leader r) (begun r)
+
+-- the bytes of the scatterers that a record of kind 11 with this body calls for, which rest begins with
+abbrev pub scattered : List ℕ → List ℕ → List ℕ
+scattered b rest = narrowedAll (widthsOf (scatterersBehind b)) (scatterersBehind b .count) rest
+
+-- the bytes that a record adds with the scatterers that it calls for, and how many bytes these take on the sheet
+unfoldable pub speltNext : Record → Record → List ℕ → List ℕ
+speltNext leader r rest = spelt leader r ++ cond (eqb (r .kind) 11) (scattered (r .body) rest) []
+
+unfoldable pub readNext : Record → ℕ
+readNext r = cond (eqb (r .kind) 11) (scatterersBehind (r .body) .count * recordLength 12) 0
 
 -- the record that begins the segment of those behind a record
 abbrev pub leaderBehind : Record → Record → Record
@@ -55,7 +70,8 @@ leading b = record { kind = 0; body = b }
 abbrev pub Begins : Record → Type 0
 Begins r = (length (r .body) ≡ bodyLength (r .kind)) × (1 ≤ length (r .body)) × (sizeOf r ≤ 65536)
 
--- what is certain of any record on a sheet whose packet is no longer: a target's leader has a mask, and a piece has as many bytes as it counts
+-- what is certain of any record on a sheet whose packet is no longer, where scatterers are passed with the record that calls for them: a
+-- target's leader has a mask, and a piece has as many bytes as it counts
 abbrev pub Spellable : List ℕ → Record → Type 0
 Spellable leader r =
     (length (r .body) ≡ bodyLength (r .kind))
@@ -63,6 +79,7 @@ Spellable leader r =
     × (addedSize r ≤ 65536)
     × (r .kind ≡ 4 → 8 ≤ length leader)
     × (r .kind ≡ 6 → getD (r .body) 0 0 ≤ 32)
+    × (r .kind ≡ 12 → ⊥)
 
 -- ---- rows 17 and 18, and the length of the packet
 
@@ -90,3 +107,7 @@ counted d sum r =
     cond (ltb 0 (d .left))
     (cond (eqb (r .kind) (d .kind) && eqb (carried r) (share d)) (Then (d .kind) (d .left - share d) sum) Misplaced)
     (cond (isFollower r) Misplaced (Then (calledFor r .kind) (calledFor r .left) (capped (sum + sizeOf r))))
+
+-- how many records from the front of x on are passed at once, where so much of a kind is left: none, or all the scatterers
+abbrev pub Passes : ℕ → ℕ → List ℕ → ℕ → Type 0
+Passes follower left x n = (n ≡ 0) ⊎ ((n ≡ left) × (follower ≡ 12) × BeginsWith left x)

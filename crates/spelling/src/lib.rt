@@ -1,16 +1,17 @@
 // The packet that a sheet spells: the header, then each segment with S2 worked out and only announced fields.
 ghost use mathlib.Core.Path.{_≡_};
 ghost use mathlib.Core.Bool.{cond};
-ghost use mathlib.Core.List.{_∷_};
-ghost use Prim.Native.Nat.{_≤_};
+ghost use mathlib.Core.List.{_∷_, _++_};
+ghost use Prim.Native.Nat.{_*_, _≤_};
 ghost use lib.ListN.{length, getD, take, drop};
 ghost use lib.Seq.{sets};
 ghost use Rattle.octets.specs.Octets.{bytes};
 ghost use Rattle.format.specs.Sheet.{bodyLength};
+ghost use Rattle.format.specs.Lengths.{recordLength};
 ghost use Rattle.format.specs.Writer.{listed, due, given as givenOf, spell as spellSheet};
-ghost use Rattle.sheet_walk.specs.InnerShape.{placeAt, isRest, Shaped};
+ghost use Rattle.sheet_walk.specs.InnerShape.{placeAt, isRest, Shaped, scatterersBehind, BeginsWith};
 ghost use Rattle.spelling.specs.declared.Survey.the-variants.{Unlisted, Incomplete};
-ghost use Rattle.spelling.specs.InnerSpelling.{begun, spelt, recordIn, leading, Begins, Spellable, headerEnd, surveyed, capped as cappedAt, counted};
+ghost use Rattle.spelling.specs.InnerSpelling.{begun, spelt, scattered, speltNext, readNext, recordIn, leading, Begins, Spellable, headerEnd, surveyed, capped as cappedAt, counted, Passes};
 use sheet_walk::Place;
 
 // What rows 17 and 18 say of a sheet and, where neither applies, how long its packet is.
@@ -92,6 +93,22 @@ fn header_end(x: &[u8]) -> usize
     }
 }
 
+// How many of the records from a place on can be passed at once, behind a record of this kind: scatterers, where all that are due are there. They
+// are looked at once, behind the HRR record: where one is none, the walk finds it record by record.
+fn passed(x: &[u8], at: usize, follower: u8, left: usize) -> usize
+    requires { ⌜ at ≤ length (now x) ⌝ }
+    ensures { λ n. ⌜ Passes follower left (drop at (now (x .entry))) n ⌝ }
+{
+    if follower != format::ScattererRecord::KIND {
+        return 0;
+    }
+    if sheet_walk::are_scatterers(&x[at..], left) {
+        left
+    } else {
+        0
+    }
+}
+
 // Rows 17 and 18 and the length of the packet, in one walk. A later fault of row 17 comes before an earlier one of row 18.
 pub fn survey_of(x: &[u8]) -> Survey
     ensures { λ r. ⌜ r ≡ surveyed (now (x .entry)) ⌝ }
@@ -121,9 +138,15 @@ pub fn survey_of(x: &[u8]) -> Survey
                     Counted::Misplaced => return incomplete(x, end),
                     Counted::Then(f, l, s) => {
                         follower = f;
-                        left = l;
                         sum = s;
-                        at = end;
+                        if 0 < left {
+                            left = l;
+                            at = end;
+                        } else {
+                            let n = passed(x, end, f, l);
+                            left = l - n;
+                            at = end + n * format::ScattererRecord::WHOLE;
+                        }
                     }
                 }
             }
@@ -140,6 +163,16 @@ fn put_head(segment_type: u8, size: u32, o: &mut [u8])
     octets::put_u32(o, 1, size);
 }
 
+// The mask of an HRR segment, and the fields that it announces.
+fn put_masked_hrr(b: &[u8], o: &mut [u8])
+    requires { ⌜ (length (now b) ≡ bodyLength 11) × (length (givenOf (recordIn 11 (now b))) ≤ length (now o)) ⌝ }
+    ensures { λ _. ⌜ now (o .exit) ≡ sets (now (o .entry)) 0 (givenOf (recordIn 11 (now (b .entry)))) ⌝ }
+{
+    copies::copy4(b, 0, o, 0);
+    copies::copy1(b, 4, o, 4);
+    pack_hrr::hrr_fields(b, hrr::MASK, hrr::mask_of(b), o, hrr::MASK);
+}
+
 // The bytes that a record gives which begins a segment, so many.
 fn put_given(kind: u8, b: &[u8], n: usize, o: &mut [u8])
     requires { ⌜ (length (now b) ≡ bodyLength kind) × (n ≡ length (givenOf (recordIn kind (now b)))) × (n ≤ length (now o)) ⌝ }
@@ -148,6 +181,10 @@ fn put_given(kind: u8, b: &[u8], n: usize, o: &mut [u8])
     if kind == format::DwellRecord::KIND {
         copies::copy8(b, 0, o, 0);
         pack::dwell_fields(b, 8, octets::get_u64(b, 0), o, 8);
+        return;
+    }
+    if kind == format::HrrRecord::KIND {
+        put_masked_hrr(b, o);
         return;
     }
     copies::copy_all(&b[..n], o, 0);
@@ -198,6 +235,47 @@ fn put_record(kind: u8, leader: &[u8], b: &[u8], o: &mut [u8]) -> usize
     put_leader(kind, b, o)
 }
 
+// How far a step of the walk goes on the sheet behind a record, and in the packet.
+struct Step {
+    read: usize,
+    written: usize,
+}
+
+// The scatterers that a record of kind 11 with the body b calls for, which rest begins with.
+fn put_scatterers(b: &[u8], rest: &[u8], o: &mut [u8]) -> Step
+    requires { ⌜ (length (now b) ≡ bodyLength 11) × BeginsWith (scatterersBehind (now b) .count) (now rest) × (length (scattered (now b) (now rest)) ≤ length (now o)) ⌝ }
+    ensures { λ s. ⌜ (s .read ≡ scatterersBehind (now (b .entry)) .count * recordLength 12) × (s .written ≡ length (scattered (now (b .entry)) (now (rest .entry)))) ⌝ }
+    ensures { λ _. ⌜ now (o .exit) ≡ sets (now (o .entry)) 0 (scattered (now (b .entry)) (now (rest .entry))) ⌝ }
+{
+    let s = sheet_walk::scatterers_behind(b);
+    let each = s.magnitude + s.phase + s.range + s.doppler;
+    pack_hrr::scatterers(rest, s, s.count, o);
+    Step {
+        read: s.count * format::ScattererRecord::WHOLE,
+        written: s.count * each,
+    }
+}
+
+// What a record adds to the packet, with the scatterers behind it.
+fn put_next(kind: u8, leader: &[u8], b: &[u8], rest: &[u8], o: &mut [u8]) -> Step
+    requires { ⌜ Spellable (now leader) (recordIn kind (now b)) × (kind ≡ 11 → BeginsWith (scatterersBehind (now b) .count) (now rest)) × (length (speltNext (leading (now leader)) (recordIn kind (now b)) (now rest)) ≤ length (now o)) ⌝ }
+    ensures { λ s. ⌜ (s .read ≡ readNext (recordIn kind (now (b .entry)))) × (s .written ≡ length (speltNext (leading (now (leader .entry))) (recordIn kind (now (b .entry))) (now (rest .entry)))) ⌝ }
+    ensures { λ _. ⌜ now (o .exit) ≡ sets (now (o .entry)) 0 (speltNext (leading (now (leader .entry))) (recordIn kind (now (b .entry))) (now (rest .entry))) ⌝ }
+{
+    let n = put_record(kind, leader, b, o);
+    if kind == format::HrrRecord::KIND {
+        let behind = put_scatterers(b, rest, &mut o[n..]);
+        return Step {
+            read: behind.read,
+            written: n + behind.written,
+        };
+    }
+    Step {
+        read: 0,
+        written: n,
+    }
+}
+
 // The packet that x spells, at the front of o. The body of the record that begins a segment is handed on to those behind it.
 pub fn spell(x: &[u8], o: &mut [u8])
     requires { ⌜ (Shaped (now x)) × (length (spellSheet (now x)) ≤ 65536) × (length (spellSheet (now x)) ≤ length (now o)) ⌝ }
@@ -214,12 +292,19 @@ pub fn spell(x: &[u8], o: &mut [u8])
             Place::Cut => return,
             Place::Whole(kind, end) => {
                 let from = at + 1;
-                to += put_record(kind, &x[begins..ends], &x[from..end], &mut o[to..]);
+                let step = put_next(
+                    kind,
+                    &x[begins..ends],
+                    &x[from..end],
+                    &x[end..],
+                    &mut o[to..],
+                );
+                to += step.written;
+                at = end + step.read;
                 if !sheet_walk::is_follower(kind) {
                     begins = from;
                     ends = end;
                 }
-                at = end;
             }
         }
     }

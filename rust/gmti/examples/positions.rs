@@ -3,7 +3,7 @@
 use std::io::{self, Read};
 
 /// The length of a record of each kind, its kind byte included. There is no kind 0.
-const RECORD_LENGTHS: [usize; 11] = [0, 33, 40, 88, 45, 25, 34, 6, 70, 15, 24];
+const RECORD_LENGTHS: [usize; 13] = [0, 33, 40, 88, 45, 25, 34, 6, 70, 15, 24, 67, 9];
 
 /// The P2 of the packet that begins here, or None where it cannot be trusted.
 fn trusted_length(rest: &[u8]) -> Option<usize> {

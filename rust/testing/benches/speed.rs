@@ -7,8 +7,8 @@ use gmti::{Answer, LONGEST_PACKET, LONGEST_SHEET};
 use std::hint::black_box;
 use std::time::Instant;
 use testing::generator::spelling::{push, Packet, Segment};
-use testing::generator::tables::{bit, width, MOST_DWELLS};
-use testing::generator::{valid, Random};
+use testing::generator::tables::{bit, mask_of, width, HRR_ALWAYS, MOST_DWELLS};
+use testing::generator::{hrr, valid, Random};
 use testing::{by_hand, independent};
 
 const ROUNDS: usize = 2000;
@@ -122,6 +122,20 @@ fn dwells(pairs: impl Iterator<Item = u32>) -> Vec<u8> {
     valid::packet_by_pairs(&mut Random::new(7), &pairs.collect::<Vec<_>>()).bytes()
 }
 
+/// A packet of one HRR segment whose scatterers have so many bytes of magnitude and of phase, and the indices where there is a phase. H6
+/// tells their number.
+fn scatterers(widths: (u32, u32), count: usize) -> Vec<u8> {
+    let others = if widths.1 == 0 { 0 } else { mask_of(&[33, 34, 35]) };
+    packet(vec![hrr::with_widths(&mut Random::new(8), mask_of(&HRR_ALWAYS) | bit(6) | others, widths, count).segment()])
+}
+
+/// The same with as many scatterers as fit.
+fn full_of_scatterers(widths: (u32, u32)) -> Vec<u8> {
+    let empty = scatterers(widths, 0).len();
+    let each = scatterers(widths, 1).len() - empty;
+    scatterers(widths, (LONGEST_PACKET - empty) / each)
+}
+
 /// The 92 bytes of document 01's printed trial.
 fn printed() -> Vec<u8> {
     let mut body = SMALL.to_be_bytes().to_vec();
@@ -153,6 +167,10 @@ const RISING: &str = "1,364 dwells, rising";
 const FALLING: &str = "1,364 dwells, falling";
 /// As many segments of one dwell. The same pair never falls, so that this costs what rising costs.
 const ALIKE: &str = "1,364 dwells, all alike";
+/// As many scatterers as fit, each of one byte.
+const MAGNITUDES: &str = "65,463 scatterers, one byte each";
+/// As many as fit of six bytes each: magnitude and phase of two, range index and Doppler index of one.
+const PROFILES: &str = "10,910 scatterers, all four fields";
 
 fn cases() -> Vec<Case> {
     let goal = |name, packet| Case { is_goal: true, ..Case::new(name, packet) };
@@ -168,6 +186,8 @@ fn cases() -> Vec<Case> {
         Case::new(RISING, dwells(0..MOST_DWELLS)),
         Case::new(FALLING, dwells((0..MOST_DWELLS).rev())),
         Case::new(ALIKE, dwells((0..MOST_DWELLS).map(|_| 7))),
+        Case::new(MAGNITUDES, full_of_scatterers((1, 0))),
+        Case::new(PROFILES, full_of_scatterers((2, 2))),
     ]
 }
 
@@ -375,11 +395,17 @@ fn print_ratios(all: &[Measured]) {
 
 fn print_growth(rounds: usize) {
     println!("### Growth: one dwell with mask {SMALL:016X} (D2 to D11, D24 to D27, D32.4, D32.5), {rounds} rounds, ns a target\n");
+    print_growth_of("Targets", [1000, 2000, 4000, 8000, 16_000], |count| dwell(SMALL, count as u64), rounds);
+    println!("\n### Growth: one HRR segment with scatterers of one byte, {rounds} rounds, ns a scatterer\n");
+    print_growth_of("Scatterers", [4000, 8000, 16_000, 32_000, 64_000], |count| scatterers((1, 0), count), rounds);
+}
+
+fn print_growth_of(things: &str, counts: [usize; 5], packet_of: fn(usize) -> Vec<u8>, rounds: usize) {
     let variants = [VERIFIED_READ, READ_BY_HAND, VERIFIED_WRITE].map(|variant| &VARIANTS[variant]);
-    println!("| Targets | verified read, best | median | read by hand, best | median | verified write, best | median |");
+    println!("| {things} | verified read, best | median | read by hand, best | median | verified write, best | median |");
     println!("|---|---|---|---|---|---|---|");
-    for count in [1000, 2000, 4000, 8000, 16_000] {
-        let times = rounds_of(&mut Case::new("growth", dwell(SMALL, count)), &variants, rounds);
+    for count in counts {
+        let times = rounds_of(&mut Case::new("growth", packet_of(count)), &variants, rounds);
         let cells = times.iter().map(|t| format!("{:.2} | {:.2}", t.best / count as f64, t.median / count as f64));
         println!("| {count} | {} |", cells.collect::<Vec<_>>().join(" | "));
     }
@@ -387,10 +413,13 @@ fn print_growth(rounds: usize) {
 
 /// The most that text may take, over the reader by hand.
 const TEXT_GOAL: f64 = 1.2;
+/// The most that scatterers may take, over the reader by hand; and writing them back, over reading them.
+const SCATTERERS_GOAL: f64 = 1.5;
+const SCATTERERS_BACK_GOAL: f64 = 3.0;
 /// The most that as many dwells may take, falling or all alike, over those in rising order.
 const ORDER_GOAL: f64 = 3.0;
 
-/// The ratios of the bests over all runs, in each case that the goals are for; and those of text, and of many dwells.
+/// The ratios of the bests over all runs, in each case that the goals are for; and those of text, of many dwells and of scatterers.
 fn print_goals(runs: &[Vec<Measured>]) {
     println!("## The goals\n");
     let cases: Vec<usize> = (0..runs[0].len()).filter(|case| runs[0][*case].case.is_goal).collect();
@@ -401,12 +430,24 @@ fn print_goals(runs: &[Vec<Measured>]) {
     }
     println!();
     print_head("Goal", &["verified read"]);
-    let best = |run: &[Measured], name: &str| times_of(run, name)[VERIFIED_READ].best;
-    let cell = goal_cell(TEXT_GOAL, runs.iter().map(|run| best(run, TEXTS) / times_of(run, TEXTS)[READ_BY_HAND].best).collect());
-    println!("| {TEXTS}, over the reader by hand: at most {TEXT_GOAL} | {cell} |");
+    let over = |(name, variant), (other_name, other), goal| {
+        let best = |run, name: &str, variant: usize| times_of(run, name)[variant].best;
+        goal_cell(goal, runs.iter().map(|run| best(run, name, variant) / best(run, other_name, other)).collect())
+    };
+    let over_by_hand = |name, goal| over((name, VERIFIED_READ), (name, READ_BY_HAND), goal);
+    println!("| {TEXTS}, over the reader by hand: at most {TEXT_GOAL} | {} |", over_by_hand(TEXTS, TEXT_GOAL));
     for order in [FALLING, ALIKE] {
-        let cell = goal_cell(ORDER_GOAL, runs.iter().map(|run| best(run, order) / best(run, RISING)).collect());
+        let cell = over((order, VERIFIED_READ), (RISING, VERIFIED_READ), ORDER_GOAL);
         println!("| {order} / {RISING}: at most {ORDER_GOAL} | {cell} |");
+    }
+    for name in [MAGNITUDES, PROFILES] {
+        println!("| {name}, over the reader by hand: at most {SCATTERERS_GOAL} | {} |", over_by_hand(name, SCATTERERS_GOAL));
+    }
+    println!();
+    print_head("Goal", &["verified write"]);
+    for name in [MAGNITUDES, PROFILES] {
+        let cell = over((name, VERIFIED_WRITE), (name, VERIFIED_READ), SCATTERERS_BACK_GOAL);
+        println!("| {name}, over the verified read: at most {SCATTERERS_BACK_GOAL} | {cell} |");
     }
     println!();
 }

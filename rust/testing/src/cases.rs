@@ -5,9 +5,9 @@ use crate::generator::faults::Fault;
 use crate::generator::sheet_faults::SheetFault;
 use crate::generator::sheets::{self, AimedSheet};
 use crate::generator::spelling::Segment;
-use crate::generator::tables::MOST_DWELLS;
+use crate::generator::tables::{bit, MOST_DWELLS};
 use crate::generator::valid::{Pair, Style};
-use crate::generator::{damage, pairs, valid, Random};
+use crate::generator::{damage, hrr, pairs, valid, Random};
 use gmti::{Answer, LONGEST_PACKET};
 
 /// The kinds of case, by turns.
@@ -93,7 +93,8 @@ pub fn accepted(comparison: &mut Comparison, packet: &[u8]) -> Compared<()> {
     comparison.expect(newer, answer_of(newer, None), read_call(3, packet))
 }
 
-/// A packet of 65,535 to 65,537 bytes: segments of any type, and one that fills it, of targets or of bytes. Or one full of dwells.
+/// A packet of 65,535 to 65,537 bytes: segments of any type, maybe a thousand targets or some thousand scatterers, and bytes that fill it.
+/// Or one full of dwells.
 fn long_packet(comparison: &mut Comparison, random: &mut Random) -> Compared<()> {
     if random.chance(25) {
         let pairs = pairs::run(random, MOST_DWELLS as usize);
@@ -106,6 +107,9 @@ fn long_packet(comparison: &mut Comparison, random: &mut Random) -> Compared<()>
     if random.chance(50) {
         let mask = valid::mask(random, style, Pair::Deltas);
         packet.segments.push(valid::dwell_with(random, mask, 1000).segment());
+    } else if style.version == 3 && style.new {
+        let mask = hrr::mask(random) | bit(random.pick([6, 7]));
+        packet.segments.push(hrr::with(random, mask, 6000).segment());
     }
     while packet.length_from(0) + 37 > length {
         packet.segments.pop();
@@ -145,7 +149,7 @@ pub fn aimed_sheet(comparison: &mut Comparison, aimed: Option<AimedSheet>) -> Co
 
 /// A fault of any row: most faults are of row 11, so the row is chosen first.
 fn any_fault(random: &mut Random) -> Fault {
-    let row = random.between(2, 15) as u32;
+    let row = random.pick([2, 3, 4, 5, 6, 7, 8, 9, 10, 11, 12, 13, 14, 15, 21, 22]);
     let faults: Vec<Fault> = Fault::all().into_iter().filter(|fault| fault.row() == row).collect();
     random.one_of(&faults).unwrap_or(Fault::Left)
 }
@@ -182,7 +186,7 @@ fn any_sheet(random: &mut Random) -> Vec<u8> {
     let mut bytes = random.bytes(length);
     if random.chance(50) {
         for byte in &mut bytes {
-            *byte %= 12;
+            *byte %= 14;
         }
     }
     if random.chance(70) {

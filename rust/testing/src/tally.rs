@@ -1,8 +1,12 @@
 //! What a run of comparisons has seen, so that a run that tries too little can be told.
 use crate::generator::records::{split, Record};
+use crate::generator::tables::RECORD_LENGTHS;
 use gmti::Answer;
 use std::collections::BTreeMap;
 use std::fmt;
+
+/// One more than the greatest number of a row.
+const ROWS: usize = 23;
 
 /// Counts of cases, calls, answers and records.
 #[derive(Clone, Debug, Default)]
@@ -10,17 +14,17 @@ pub struct Tally {
     /// Cases by kind.
     pub kinds: BTreeMap<&'static str, u64>,
     /// Answers of the Edition 1 reading by row; 0 for acceptances.
-    pub older: [u64; 21],
+    pub older: [u64; ROWS],
     /// Those of the Edition 3 reading.
-    pub newer: [u64; 21],
+    pub newer: [u64; ROWS],
     /// Those of readings as any other edition.
-    pub others: [u64; 21],
+    pub others: [u64; ROWS],
     /// Those of the writer.
-    pub writer: [u64; 21],
+    pub writer: [u64; ROWS],
     /// Answers by row and field, of the rows that name one.
     pub fields: BTreeMap<(u32, u32), u64>,
     /// Records by kind, on the sheets of accepted packets; 0 is unused.
-    pub records: [u64; 11],
+    pub records: [u64; RECORD_LENGTHS.len()],
     /// Those sheets by what the pairs of D2 and D3 on them do, in the order of [`LIKENESSES`]; a sheet counts once for each.
     pub pairs: [u64; LIKENESSES.len()],
 }
@@ -98,16 +102,16 @@ impl Tally {
 
     /// The rows that one of the readings has answered.
     pub fn rows_read(&self) -> Vec<usize> {
-        (1..=20).filter(|row| self.older[*row] + self.newer[*row] + self.others[*row] > 0).collect()
+        (1..ROWS).filter(|row| self.older[*row] + self.newer[*row] + self.others[*row] > 0).collect()
     }
 
     /// The rows that the writer has answered.
     pub fn rows_written(&self) -> Vec<usize> {
-        (1..=20).filter(|row| self.writer[*row] > 0).collect()
+        (1..ROWS).filter(|row| self.writer[*row] > 0).collect()
     }
 }
 
-fn count(rows: &mut [u64; 21], answer: Answer) {
+fn count(rows: &mut [u64; ROWS], answer: Answer) {
     if let Some(row) = rows.get_mut(answer.number as usize) {
         *row += 1;
     }
@@ -121,7 +125,7 @@ impl fmt::Display for Tally {
         }
         writeln!(f, "{:32} {:>9}", "calls", self.calls())?;
         writeln!(f, "{:10} {:>9} {:>9} {:>9} {:>9}", "row", "Edition 1", "Edition 3", "others", "writer")?;
-        for row in 0..=20 {
+        for row in 0..ROWS {
             let name = if row == 0 { "accepted".to_string() } else { row.to_string() };
             let counts = [self.older[row], self.newer[row], self.others[row], self.writer[row]];
             writeln!(f, "{name:10} {:>9} {:>9} {:>9} {:>9}", counts[0], counts[1], counts[2], counts[3])?;
@@ -130,7 +134,7 @@ impl fmt::Display for Tally {
             let fields: Vec<String> = self.fields_of(row).iter().map(u32::to_string).collect();
             writeln!(f, "fields of row {row}: {}", fields.join(" "))?;
         }
-        let records: Vec<String> = (1..=10).map(|kind| format!("{kind}: {}", self.records[kind])).collect();
+        let records: Vec<String> = (1..RECORD_LENGTHS.len()).map(|kind| format!("{kind}: {}", self.records[kind])).collect();
         writeln!(f, "records by kind {}", records.join(", "))?;
         let pairs: Vec<String> = LIKENESSES.iter().zip(self.pairs).map(|((name, _), count)| format!("{name}: {count}")).collect();
         write!(f, "sheets by pairs of D2 and D3 {}", pairs.join(", "))

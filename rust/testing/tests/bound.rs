@@ -8,8 +8,8 @@ use testing::comparison::Comparison;
 use testing::generator::faults::Fault;
 use testing::generator::records::sheet_of;
 use testing::generator::spelling::Packet;
-use testing::generator::tables::{MOST_DWELLS, MOST_TARGETS};
-use testing::generator::{aimed, damage, valid, Random};
+use testing::generator::tables::{bit, mask_of, HRR_ALWAYS, MOST_DWELLS, MOST_TARGETS};
+use testing::generator::{aimed, damage, hrr, valid, Random};
 use testing::independent;
 
 /// 33 + 45 × (n − 32) / 4, rounded down, and 0 for what is no length of a packet. No number of this is too long for 128 bits.
@@ -80,6 +80,7 @@ fn enough_for_packets_with_faults() {
     }
     let tally = comparison.tally;
     assert!((2..=15).all(|row| tally.older[row] > 0 && (tally.newer[row] > 0 || row == 15)), "{tally}");
+    assert!(tally.newer[21] > 0 && tally.newer[22] > 0, "{tally}");
 }
 
 #[test]
@@ -108,6 +109,25 @@ fn enough_for_full_packets() {
         assert_enough(&mut comparison, &packet);
     }
     assert_eq!((comparison.tally.newer[0], comparison.tally.newer[2]), (2, 1), "{}", comparison.tally);
+}
+
+/// Full of HRR segments: of as many scatterers as fit in one, each of one byte, and of as many segments without scatterers as fit. The
+/// first makes 9 bytes of sheet out of a byte, the most of all but targets.
+#[test]
+fn enough_for_full_packets_of_hrr_segments() {
+    let mut comparison = Comparison::new(708);
+    let random = &mut Random::new(708);
+    let least = mask_of(&HRR_ALWAYS);
+    let room = LONGEST_PACKET - 32;
+    let scatterers = hrr::with_widths(random, least | bit(6), (1, 0), room - 41).segment();
+    let empty = hrr::with(random, least, 0).segment();
+    for (index, segments) in [vec![scatterers], vec![empty; room / 39]].into_iter().enumerate() {
+        comparison.begin("full packet", index as u64);
+        let packet = Packet::new(valid::header(random, 3), segments).bytes();
+        assert!(packet.len() > LONGEST_PACKET - 39);
+        assert_enough(&mut comparison, &packet);
+    }
+    assert_eq!((comparison.tally.newer[0], comparison.tally.older[15]), (2, 2), "{}", comparison.tally);
 }
 
 /// The bound cannot be lower: a packet without segments has a sheet just as long.

@@ -10,7 +10,7 @@ use testing::generator::records::sheet_of;
 use testing::generator::spelling::{Packet, Segment};
 use testing::generator::tables::{bit, mask_of, ALWAYS, ANGLES, LAST_FIELD, NEW_MODES};
 use testing::generator::valid::{self, Style};
-use testing::generator::Random;
+use testing::generator::{hrr, Random};
 use testing::independent;
 
 /// Demand 3 is compared with every version 3 packet that is accepted; here both of its cases and every field are seen.
@@ -123,7 +123,7 @@ fn first_of_two_new_things() {
     for index in 0..400 {
         let random = &mut Random::of_case(405, index);
         let new = |random: &mut Random, choice: u64| match choice {
-            0 => (Segment::new(3, random.bytes(5)), 0),
+            0 => (hrr::any(random).segment(), 0),
             1 => (valid::dwell_with(random, least | bit(28), 0).segment(), 29),
             2 => (valid::dwell_with(random, least | bit(LAST_FIELD), 0).segment(), 49),
             _ => (valid::job_with(random, 97), 14),
@@ -133,7 +133,25 @@ fn first_of_two_new_things() {
         let segments = vec![valid::segment(random, style), first, valid::segment(random, style), second];
         let packet = Packet::new(valid::header(random, 3), segments).bytes();
         comparison.begin("two new things", index);
-        assert_eq!(held(comparison.packet(&packet)).0, Answer::refused(15, 2, field));
+        let (older, newer) = held(comparison.packet(&packet));
+        assert_eq!((older, newer.is_accepted()), (Answer::refused(15, 2, field), true));
+    }
+}
+
+/// An HRR segment is new in version 3, whatever its fields hold, and opaque in version 1 under both readings.
+#[test]
+fn hrr_segments_of_both_versions() {
+    let mut comparison = Comparison::new(407);
+    for index in 0..500 {
+        let random = &mut Random::of_case(407, index);
+        let segment = hrr::any(random).segment();
+        let length = segment.body.len();
+        comparison.begin("HRR segment", index);
+        let (answer, number) = older(&mut comparison, random, 3, segment.clone());
+        assert_eq!(answer, Answer::refused(15, number, 0));
+        let packet = Packet::new(valid::header(random, 1), vec![segment]).bytes();
+        let kept = Answer::accepted(1, 0, 0, 33 + 6 + 34 * length.div_ceil(32) as u32);
+        assert_eq!(held(comparison.packet(&packet)), (kept, kept));
     }
 }
 

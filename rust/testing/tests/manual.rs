@@ -4,10 +4,10 @@ use std::collections::{BTreeMap, BTreeSet};
 use std::fs;
 use testing::root;
 
-/// The length of the body of each kind, from kind 1 on, by document 01.
-const BODY_LENGTHS: [usize; 10] = [32, 39, 87, 44, 24, 33, 5, 69, 14, 23];
+/// The length of the body of each kind, from kind 1 on, by document 01 and request A4.
+const BODY_LENGTHS: [usize; 12] = [32, 39, 87, 44, 24, 33, 5, 69, 14, 23, 66, 8];
 
-/// Widths by document 01.
+/// Widths by document 01; those of HRR segments by document 003, and of scatterers on the sheet by request A4.
 const HEADER: [usize; 10] = [2, 4, 2, 1, 2, 2, 1, 10, 4, 4];
 const MISSION: [usize; 7] = [12, 12, 1, 10, 2, 1, 1];
 const DWELL: [usize; 31] = [8, 2, 2, 1, 2, 4, 4, 4, 4, 4, 4, 4, 4, 2, 2, 4, 1, 1, 2, 2, 2, 2, 2, 4, 4, 2, 2, 2, 2, 2, 1];
@@ -16,6 +16,8 @@ const JOB: [usize; 28] = [4, 1, 6, 1, 1, 4, 4, 4, 4, 4, 4, 4, 4, 1, 2, 2, 2, 2, 
 const TEXT: [usize; 2] = [10, 10];
 const TEST: [usize; 6] = [4, 2, 2, 4, 1, 1];
 const LOCATION: [usize; 7] = [4, 4, 4, 4, 2, 4, 1];
+const HRR: [usize; 31] = [5, 2, 2, 1, 2, 2, 2, 2, 1, 1, 2, 2, 4, 4, 4, 1, 1, 1, 2, 1, 2, 4, 1, 1, 1, 1, 1, 4, 1, 4, 4];
+const SCATTERER: [usize; 4] = [2; 4];
 
 /// Masks with every field that is allowed beside deltas, and beside absolute positions.
 const WITH_DELTAS: u64 = 0xFFFF_FFFE_7FFF_0000;
@@ -66,7 +68,7 @@ fn numbered(letter: &str, widths: &[usize]) -> Vec<(String, usize)> {
     widths.iter().enumerate().map(|(i, &width)| (format!("{letter}{}", i + 1), width)).collect()
 }
 
-/// The fields of a record and their widths, by document 01.
+/// The fields of a record and their widths.
 fn fields(kind: usize) -> Vec<(String, usize)> {
     let other = |names: &[(&str, usize)]| names.iter().map(|&(name, width)| (name.to_string(), width)).collect();
     let kind_byte: Vec<_> = other(&[("kind", 1)]);
@@ -80,7 +82,9 @@ fn fields(kind: usize) -> Vec<(String, usize)> {
         7 => (vec![], other(&[("type", 1), ("length", 4)])),
         8 => (numbered("J", &JOB), other(&[("mark", 1)])),
         9 => (numbered("T", &TEST), vec![]),
-        _ => (numbered("L", &LOCATION), vec![]),
+        10 => (numbered("L", &LOCATION), vec![]),
+        11 => (numbered("H", &HRR), vec![]),
+        _ => (numbered("H32.", &SCATTERER), vec![]),
     };
     [kind_byte, first, then].concat()
 }
@@ -89,7 +93,7 @@ fn fields(kind: usize) -> Vec<(String, usize)> {
 fn tables_have_every_field_without_gap_or_overlap() {
     let text = manual();
     let kinds = table("## The sheet");
-    for kind in 1..=10 {
+    for kind in 1..=BODY_LENGTHS.len() {
         let (rows, mut at) = (offsets(kind), 0);
         let listed: Vec<_> = rows.iter().map(|row| (row.field.clone(), row.width)).collect();
         assert_eq!(listed, fields(kind), "kind {kind}");
@@ -104,19 +108,22 @@ fn tables_have_every_field_without_gap_or_overlap() {
     }
 }
 
-/// The number by which mask and refusals know a field of a dwell or target; None for what no mask announces.
+/// The number by which mask and refusals know a field of a dwell or target, or of an HRR segment or scatterer; None for what no mask
+/// announces.
 fn number_of(field: &str) -> Option<u32> {
-    match field.strip_prefix("D32.") {
+    let name = field.strip_prefix(['D', 'H'])?;
+    match name.strip_prefix("32.") {
         Some(j) => j.parse().ok().map(|j: u32| 31 + j),
-        None => field.strip_prefix('D').and_then(|n| n.parse().ok()).filter(|&n| n > 1),
+        None => name.parse().ok().filter(|&n| n > 1),
     }
 }
 
+/// The mask of a dwell has 64 bits, that of an HRR segment 40.
 #[test]
 fn tables_give_the_mask_bits() {
-    for kind in [3, 4] {
+    for (kind, above) in [(3, 65), (4, 65), (11, 41), (12, 41)] {
         for row in offsets(kind) {
-            assert_eq!(row.bit, number_of(&row.field).map(|n| 65 - n), "{}", row.field);
+            assert_eq!(row.bit, number_of(&row.field).map(|n| above - n), "{}", row.field);
         }
     }
 }
@@ -146,6 +153,21 @@ fn dwell(mask: u64, targets: u16, set: Set) -> Vec<u8> {
     segment(2, &[area, target.repeat(targets.into())].concat())
 }
 
+/// An HRR segment of this mask, of 40 bits, with these scatterers. Unless they are set, H25 is 1 and the others are zero.
+fn hrr(mask: u64, set: Set, scatterers: &[u8]) -> Vec<u8> {
+    let set: BTreeMap<u32, &[u8]> = [(25, &[1][..])].into_iter().chain(set.iter().copied()).collect();
+    let widths = HRR[1..].iter().enumerate().map(|(i, &width)| (i as u32 + 2, width));
+    let mut body = mask.to_be_bytes()[3..].to_vec();
+    for (number, width) in widths.filter(|(number, _)| mask >> (41 - number) & 1 == 1) {
+        body.extend_from_slice(set.get(&number).copied().unwrap_or(&vec![0; width]));
+    }
+    segment(3, &[&body, scatterers].concat())
+}
+
+/// The mask of every field, and that of those which every HRR segment announces.
+const EVERY_HRR_FIELD: u64 = 0xFF_FFFF_FFC0;
+const LEAST_HRR: u64 = 0xE2_FBC7_8200;
+
 /// The sheet of a packet that must be accepted.
 fn sheet_of(edition: u32, packet: &[u8]) -> Vec<u8> {
     let mut sheet = vec![0; gmti::LONGEST_SHEET];
@@ -169,7 +191,8 @@ fn value(field: &str, width: usize) -> Vec<u8> {
         "M6" => vec![7],
         "M7" => vec![23],
         "D4" => vec![1],
-        "D5" | "D32.15" => vec![1, 2],
+        "D5" | "D32.15" | "H6" => vec![1, 2],
+        "H25" | "H26" => vec![2],
         _ => (b'A'..).take(width).collect(),
     }
 }
@@ -263,6 +286,38 @@ fn fields_of_a_target_stand_at_their_offsets() {
     }
 }
 
+#[test]
+fn fields_of_an_hrr_segment_stand_at_their_offsets() {
+    let record = |mask, set: Set, scatterers: &[u8]| record_of(11, 33, &packet(b"30", &hrr(mask, set, scatterers)));
+    let blank = record(EVERY_HRR_FIELD, &[], &[]);
+    for (field, width) in numbered("H", &HRR).into_iter().skip(1) {
+        let value = value(&field, width);
+        // Without a phase each scatterer has three bytes.
+        let scatterers = if field == "H6" { 3 * 0x0102 } else { 0 };
+        let set = record(EVERY_HRR_FIELD, &[(number_of(&field).unwrap(), &value)], &vec![0; scatterers]);
+        assert_stands(11, &field, &value, &blank, &set, &[]);
+    }
+    assert_eq!(blank[place(11, "H1")], EVERY_HRR_FIELD.to_be_bytes()[3..]);
+    let least = record(LEAST_HRR, &[], &[]);
+    assert_stands(11, "H1", &LEAST_HRR.to_be_bytes()[3..], &blank, &least, &[]);
+}
+
+#[test]
+fn fields_of_a_scatterer_stand_at_their_offsets() {
+    let count = 1u16.to_be_bytes();
+    let record = |bytes: u8, scatterer: &[u8]| {
+        let set: Set = &[(6, &count), (25, &[bytes]), (26, &[bytes])];
+        record_of(12, 33 + 67, &packet(b"30", &hrr(EVERY_HRR_FIELD, set, scatterer)))
+    };
+    let wide = record(2, b"ABCDEF");
+    let narrow = record(1, b"ACEF");
+    for (field, in_wide, in_narrow) in
+        [("H32.1", b"AB", b"\0A"), ("H32.2", b"CD", b"\0C"), ("H32.3", b"\0E", b"\0E"), ("H32.4", b"\0F", b"\0F")]
+    {
+        assert_eq!((&wide[place(12, field)], &narrow[place(12, field)]), (&in_wide[..], &in_narrow[..]), "{field}");
+    }
+}
+
 /// Steps of 180 / 2^32 degrees, or of 360 / 2^32, as microdegrees: rounded to the nearest, a half away from zero.
 fn microdegrees(steps: i128, circle: i128) -> i128 {
     let (top, bottom) = (steps.abs() * circle * 1_000_000, 1i128 << 32);
@@ -315,10 +370,10 @@ fn pieces_stand_at_their_offsets() {
 }
 
 #[test]
-fn refusals_have_the_rows_1_to_20() {
+fn refusals_have_the_rows_1_to_22() {
     let rows = table("## Refusals");
     let numbers: Vec<_> = rows[2..].iter().map(|row| row[0].clone()).collect();
-    assert_eq!(numbers, (1..=20).map(|number: u32| number.to_string()).collect::<Vec<_>>());
+    assert_eq!(numbers, (1..=22).map(|number: u32| number.to_string()).collect::<Vec<_>>());
     assert!(rows[2..].iter().all(|row| row.len() == 4 && row.iter().all(|cell| !cell.is_empty())));
     let naming: Vec<_> = rows[2..].iter().filter(|row| row[2] != "0").map(|row| row[0].as_str()).collect();
     assert_eq!(naming, ["5", "10", "11", "13", "14", "15"]);
@@ -372,6 +427,11 @@ fn refusals_of_dwells() -> Vec<Answer> {
     ]
 }
 
+fn refusals_of_hrr_segments() -> Vec<Answer> {
+    let one = |mask, set: Set| read(3, &packet(b"30", &hrr(mask, set, &[])));
+    vec![one(LEAST_HRR & !(1 << 39), &[]), one(LEAST_HRR | 1, &[]), one(LEAST_HRR, &[(25, &[0])]), one(LEAST_HRR, &[(26, &[3])])]
+}
+
 fn refusals_of_edition_1() -> Vec<Answer> {
     let one = |segments: &[u8]| read(1, &packet(b"30", segments));
     let least = 0xFF00_03C0_0000_0000;
@@ -401,7 +461,7 @@ fn refusals_of_room_and_writer() -> Vec<Answer> {
 fn refusals_name_the_fields_that_their_rows_list() {
     let mut found: BTreeMap<u32, BTreeSet<u32>> = BTreeMap::new();
     let answers = [refusals_of_call_and_header(), refusals_of_segments_without_mask(), refusals_of_dwells()].concat();
-    for answer in [answers, refusals_of_edition_1(), refusals_of_room_and_writer()].concat() {
+    for answer in [answers, refusals_of_hrr_segments(), refusals_of_edition_1(), refusals_of_room_and_writer()].concat() {
         found.entry(answer.number).or_default().insert(answer.field);
     }
     let numbers = |cell: &str| cell.split([' ', ',', ';']).filter_map(|word| word.parse().ok()).collect();
@@ -413,4 +473,11 @@ fn refusals_name_the_fields_that_their_rows_list() {
 fn the_example_is_that_of_the_package() {
     let example = fs::read_to_string(root().join("rust/gmti/examples/positions.rs")).unwrap();
     assert!(manual().contains(&format!("```rust\n{example}```\n")));
+}
+
+#[test]
+fn the_example_has_the_lengths_of_all_kinds() {
+    let example = fs::read_to_string(root().join("rust/gmti/examples/positions.rs")).unwrap();
+    let lengths: Vec<_> = BODY_LENGTHS.iter().map(|length| (1 + length).to_string()).collect();
+    assert!(example.contains(&format!("= [0, {}];\n", lengths.join(", "))));
 }

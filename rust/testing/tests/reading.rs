@@ -56,11 +56,12 @@ fn every_row_and_field() {
     }
     let tally = comparison.tally;
     // Row 16 needs a packet that is accepted: one that has only what is new to the Edition 1 reading.
-    assert_eq!(tally.rows_read(), (1..=16).collect::<Vec<usize>>(), "{tally}");
-    for row in 2..=15 {
-        assert!(tally.older[row] > 0 && (tally.newer[row] > 0 || row == 15), "row {row}\n{tally}");
+    assert_eq!(tally.rows_read(), (1..=16).chain([21, 22]).collect::<Vec<usize>>(), "{tally}");
+    for row in 2..=14 {
+        assert!(tally.older[row] > 0 && tally.newer[row] > 0, "row {row}\n{tally}");
     }
-    assert_eq!(tally.newer[15], 0, "{tally}");
+    assert!(tally.older[15] > 0 && tally.newer[21] > 0 && tally.newer[22] > 0, "{tally}");
+    assert_eq!((tally.newer[15], tally.older[21], tally.older[22]), (0, 0, 0), "{tally}");
     assert_eq!(tally.fields_of(5), [3, 5, 8]);
     assert_eq!(tally.fields_of(10), [1, 2, 3, 4]);
     let masks: Vec<u32> = (2..=30).chain(33..=36).chain(47..=65).collect();
@@ -85,7 +86,7 @@ fn two_faults_apart() {
             }
         }
     }
-    assert!(comparison.tally.cases() > 7_000, "{}", comparison.tally);
+    assert!(comparison.tally.cases() > 12_000, "{}", comparison.tally);
 }
 
 /// Of two faults in one segment the one of the earlier row is named.
@@ -192,9 +193,8 @@ fn every_value_of_a_byte() {
                 assert_eq!(answer.is_accepted(), value <= 1);
             }
             let answers = both(&mut comparison, header, Segment::new(value, random.bytes(7)));
-            let is_opaque = [3, 4, 7, 8, 9, 11, 12, 101, 102].contains(&value);
-            assert_eq!(answers[1].is_accepted(), is_opaque, "type {value}");
-            assert_eq!(answers[0].is_accepted(), is_opaque && (version == 1 || value != 3), "type {value}");
+            let is_opaque = [4, 7, 8, 9, 11, 12, 101, 102].contains(&value) || value == 3 && version == 1;
+            assert!(answers.iter().all(|answer| answer.is_accepted() == is_opaque), "type {value}");
             held(comparison.packet(&Packet::new(header, vec![valid::job_with(random, value), valid::job(random, style)]).bytes()));
         }
     }
@@ -349,4 +349,5 @@ fn damaged_packets() {
     }
     let tally = comparison.tally;
     assert!((1..=16).filter(|row| tally.rows_read().contains(row)).count() >= 15, "{tally}");
+    assert!(tally.newer[21] > 0 && tally.newer[22] > 0, "{tally}");
 }

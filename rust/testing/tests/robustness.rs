@@ -5,7 +5,7 @@ use common::held;
 use gmti::{sheet_bound, Answer, LONGEST_PACKET, LONGEST_SHEET};
 use testing::comparison::Comparison;
 use testing::generator::spelling::{patch_size, Packet, Segment};
-use testing::generator::tables::{mask_of, ALWAYS, DELTAS, MOST_TARGETS, OPAQUE_TYPES, OWN_TYPES};
+use testing::generator::tables::{mask_of, ALWAYS, DELTAS, HRR_TYPE, MOST_TARGETS, OPAQUE_TYPES, OWN_TYPES};
 use testing::generator::valid::{self, Style};
 use testing::generator::Random;
 use testing::{by_hand, cases, independent};
@@ -119,7 +119,7 @@ fn sizes_near_the_end_of_a_number() {
     let random = &mut Random::new(605);
     let mut sizes: Vec<u32> = (0..80).map(|less| u32::MAX - less).collect();
     sizes.extend((0..4).flat_map(|near| [(1u32 << 31) - 2 + near, (1 << 16) - 2 + near, (1 << 24) - 2 + near]));
-    for segment_type in OPAQUE_TYPES.into_iter().chain(OWN_TYPES).chain([0, 14, 255]) {
+    for segment_type in OPAQUE_TYPES.into_iter().chain(OWN_TYPES).chain([HRR_TYPE, 0, 14, 255]) {
         for before in 0..2 {
             let style = Style { version: 3, new: false };
             let mut packet = Packet::new(valid::header(random, 3), (0..before).map(|_| valid::segment(random, style)).collect());
@@ -210,9 +210,10 @@ fn run_of_compare() {
         held(cases::run(&mut comparison, 610, index));
     }
     let tally = comparison.tally;
-    assert_eq!(tally.rows_read(), (1..=16).collect::<Vec<usize>>(), "{tally}");
+    assert_eq!(tally.rows_read(), (1..=16).chain([21, 22]).collect::<Vec<usize>>(), "{tally}");
     assert_eq!(tally.rows_written(), [17, 18, 19, 20], "{tally}");
     assert!((2..=16).all(|row| tally.older[row] > 0 && (tally.newer[row] > 0 || row == 15)), "{tally}");
+    assert!(tally.newer[21] > 0 && tally.newer[22] > 0, "{tally}");
     assert!(tally.records[1..].iter().all(|count| *count > 0), "{tally}");
     assert_eq!(tally.fields_of(11).len(), 52, "{tally}");
 }

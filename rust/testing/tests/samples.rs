@@ -4,7 +4,9 @@ use std::collections::BTreeSet;
 use std::fs;
 use std::path::{Path, PathBuf};
 use std::process::Command;
+use testing::generator::damage::segment_places;
 use testing::generator::records::{split, Record};
+use testing::generator::spelling::patch_size;
 use testing::{independent, root};
 
 fn samples() -> PathBuf {
@@ -129,6 +131,35 @@ fn the_platform_name_is_damaged_by_one_byte() {
     assert_eq!(packet[14..24], *b"LN-ICE    ");
     packet[20] = b'\n';
     assert_eq!(packet, bytes_of("damaged_platform_name.gmti"));
+}
+
+/// The damaged profiles are new_range_profile.gmti with H7 13, and without the bit and the byte of H24.
+#[test]
+fn the_profiles_are_damaged_in_one_field() {
+    let right = bytes_of("new_range_profile.gmti");
+    // The HRR segment is the second. H7 stands behind H1 to H5, and H24 to H26 before the twelve samples.
+    let (h1, h24) = (segment_places(&right)[1] + 5, right.len() - 12 - 3);
+    let mut more = right.clone();
+    assert_eq!(more[h1 + 12..h1 + 14], [0, 12]);
+    more[h1 + 13] = 13;
+    assert_eq!(more, bytes_of("damaged_profile_count.gmti"));
+    let mut fewer = right.clone();
+    fewer[h1 + 2] &= !2;
+    fewer[h1 - 1] -= 1;
+    fewer.remove(h24);
+    patch_size(&mut fewer);
+    assert_eq!(fewer, bytes_of("damaged_profile_mask.gmti"));
+}
+
+/// The scatterers of new_profile_with_indices.gmti: magnitude, range index and Doppler index as make.py gives them.
+#[test]
+fn scatterers_have_their_indices() {
+    let (answer, sheet) = reading(gmti::read, 3, &bytes_of("new_profile_with_indices.gmti"));
+    let records = split(&sheet[..answer.length as usize]);
+    let scatterers: Vec<&Record> = records.iter().filter(|record| record.kind == 12).collect();
+    let found: Vec<[u32; 3]> = scatterers.iter().map(|record| [0, 4, 6].map(|place| record.number(place, 2))).collect();
+    assert_eq!(found, [0, 1, 2, 3, 4, 5].map(|k| [40 * k, 3 + 2 * k, 6 + k % 4]));
+    assert!(scatterers.iter().all(|record| record.number(2, 2) < 256) && scatterers.iter().any(|record| record.number(2, 2) > 0));
 }
 
 /// D27 with its mark and J26 with its mark, of a sheet whose second record is a dwell and whose last is a job.

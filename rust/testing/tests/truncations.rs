@@ -49,6 +49,7 @@ fn segments() {
     }
     let tally = comparison.tally;
     assert!([9, 12].iter().all(|row| tally.older[*row] > 0 && tally.newer[*row] > 0), "{tally}");
+    assert!(tally.newer[22] > 0, "{tally}");
 }
 
 /// Every truncation of a sheet, P2 as it was.

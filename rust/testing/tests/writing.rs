@@ -9,9 +9,9 @@ use testing::comparison::Comparison;
 use testing::generator::records::{join, patch_size, sheet_of, split, Record};
 use testing::generator::sheet_faults::SheetFault;
 use testing::generator::spelling::{Packet, Segment};
-use testing::generator::tables::{mask_of, names_on_sheets, TextSet, ALWAYS, DELTAS};
+use testing::generator::tables::{bit, mask_of, names_on_sheets, TextSet, ALWAYS, DELTAS, HRR_ALWAYS};
 use testing::generator::valid::{self, Style};
-use testing::generator::{sheets, Random};
+use testing::generator::{hrr, sheets, Random};
 
 #[test]
 fn sheets_of_packets() {
@@ -89,6 +89,7 @@ fn every_bit_of_a_sheet() {
     segments[2].body.resize(20 + 40, b'x');
     segments[3].body.resize(33, 7);
     segments.push(valid::dwell_with(random, mask, 2).segment());
+    segments.push(hrr::with_widths(random, mask_of(&HRR_ALWAYS) | mask_of(&[6, 7, 33, 34]), (2, 1), 2).segment());
     let packet = Packet::new(valid::header(random, 3), segments).bytes();
     let sheet = sheet_of(3, &packet).expect("the packet is valid");
     comparison.begin("flipped bits", 0);
@@ -197,6 +198,29 @@ fn most_targets() {
         let answer = held(comparison.sheet(&join(&records)));
         assert_eq!(answer.number, number, "{count} targets");
         assert!(number != 0 || answer.targets == count);
+    }
+}
+
+/// As many scatterers of one byte as a packet has room for, and more, up to twice as many as H6 can tell.
+#[test]
+fn most_scatterers() {
+    let mut comparison = Comparison::new(210);
+    comparison.begin("long sheet", 0);
+    let random = &mut Random::new(210);
+    for (h7, h8, number) in [(21_821, 3, 0), (65_464, 1, 19), (65_535, 1, 19), (65_535, 2, 19), (2, 65_535, 19)] {
+        let hrr = hrr::with_widths(random, mask_of(&HRR_ALWAYS) | bit(7), (1, 0), 1);
+        let one = Packet::new(valid::header(random, 3), vec![hrr.segment()]).bytes();
+        let mut records = split(&sheet_of(3, &one).expect("the packet is valid"));
+        records[1].set_number(14, 2, h7);
+        records[1].set_number(16, 2, h8);
+        let scatterer = records[2].clone();
+        records.resize(2 + (h7 * h8) as usize, scatterer);
+        patch_size(&mut records);
+        assert_eq!(held(comparison.sheet(&join(&records))).number, number, "{h7} by {h8} samples");
+        records.pop();
+        assert_eq!(held(comparison.sheet(&join(&records))).number, 18, "{h7} by {h8} samples, one missing");
+        records.push(Record::new(9, vec![0; 14]));
+        assert_eq!(held(comparison.sheet(&join(&records))).number, 18, "{h7} by {h8} samples, the last of another kind");
     }
 }
 

@@ -4,18 +4,20 @@ use Prim.Native.Nat.{ℕ, _+_, _-_, _*_, _≤_, _<_}
 use native.Mathlib.Nat.{zero-mul}
 use native.Mathlib.Omega.{arith}
 use mathlib.Core.Path.{_≡_, refl, sym, ap, ap₂, _∙_}
-use mathlib.Core.List.{List}
+use mathlib.Core.List.{List, _++_}
 use borrow.Author.Tests.{not-true, not-false}
 use denote.Ref.{now}
 use lib.ListN.{length, drop, length-take, length-drop}
 use Rattle.octets.proofs.Parts.{tail-is}
 use Rattle.format.specs.declared.Check.the-variants.{Passed}
-use Rattle.format.specs.Sheet.{targetRecords, recordBytes}
+use Rattle.format.specs.Sheet.{Record, targetRecords, recordBytes}
 use Rattle.format.specs.Lengths.{recordLength}
 use Rattle.format.specs.Rows.{firstRow, targetsRows}
 use Rattle.format.specs.Writer.{isSame}
+use Rattle.format.proofs.Lengths.{length-targets}
+use Rattle.dwell_checks.specs.declared.Plan.{Plan}
 use Rattle.readback.specs.InnerWindow.{windowLength}
-use Rattle.readback.proofs.Batches.{batch-rows, batch-within, targets-differ, targets-same, targets-end}
+use Rattle.readback.proofs.Batches.{batch-rows, batch-within, batch-differs, batch-same, batch-end, targets-joined}
 use borrow.Author.Needs.{needs}
 use Rattle.readback.proofs.same_targets.Statement.{statement}
 use Rattle.readback.proofs.same_targets.Tie as tie
@@ -28,6 +30,16 @@ Inv-loop t p x window₀ done₀ window done =
 
 abbrev μ-loop : tie.MeasureT-loop
 μ-loop t p x window₀ done₀ window done = p .count - done
+
+-- the records of n targets, as the laws of batches have them
+abbrev records : Plan → ℕ → List ℕ → List Record
+records p = targetRecords (p .mask) (p .area)
+
+joined : (s : tie.Start Inv-loop μ-loop) → let p = s .args .p in (j k : ℕ) (t : List ℕ) → records p (j + k) t ≡ records p j t ++ records p k (drop (j * p .each) t)
+joined s = targets-joined (s .args .p .mask) (s .args .p .each) (s .args .p .area) (s .pre .0 .0)
+
+long : (p : Plan) (k : ℕ) (t : List ℕ) → length (recordBytes (records p k t)) ≡ k * recordLength 4
+long p = length-targets (p .mask) (p .area)
 
 -- the function's start, from a batch
 abbrev start : tie.After-least Inv-loop μ-loop → tie.Start Inv-loop μ-loop
@@ -43,7 +55,7 @@ within : (c : tie.After-least Inv-loop μ-loop) → let d = c .before .before .b
 within c =
     let s = start c in
     let p = s .args .p in
-    (batch-within (p .mask) (p .each) (p .area) (now (s .args .t)) (p .count) _ _ (s .pre .0 .0) (few c .0) (s .pre .0 .1), omega (arith, few c .0, s .pre .1))
+    (batch-within (records p) (p .each) (recordLength 4) (joined s) (long p) (now (s .args .t)) (p .count) _ _ (few c .0) (p .each) (s .pre .0 .1), omega (arith, few c .0, s .pre .1))
 
 loop-holds : tie.Need-loop-holds Inv-loop μ-loop
 loop-holds c =
@@ -109,7 +121,7 @@ returns c =
     let l = batch .before .before .before .before .loop in
     let s = start batch in
     let p = s .args .p in
-    targets-differ (p .mask) (p .each) (p .area) (now (s .args .t)) (p .count) (l .done) (batch .least .result) (s .pre .0 .0) (few batch .0) (now (s .args .x)) (l .window) _ (s .pre .1) (omega (arith, few batch .2, l .inv .1, s .pre .3)) (laid .target-records .ensures) (c .before .is-front .ensures) (not-true _ (c .if2 .taken))
+    batch-differs (records p) (p .each) (recordLength 4) (joined s) (long p) (now (s .args .t)) (p .count) (l .done) (batch .least .result) (few batch .0) (now (s .args .x)) (l .window) _ (s .pre .1) (omega (arith, few batch .2, l .inv .1, s .pre .3)) (laid .target-records .ensures) (c .before .is-front .ensures) (not-true _ (c .if2 .taken))
     ∙ l .inv .3
 
 add-done : tie.Need-add-done Inv-loop μ-loop
@@ -130,7 +142,7 @@ loop-again c =
       few batch .0,
       omega (arith, laid .target-records .kept, l .inv .1),
       batch-rows (p .mask) (p .each) (p .area) t (p .count) (l .done) k (s .pre .0 .0) (few batch .0) (l .inv .2) .1,
-      targets-same (p .mask) (p .each) (p .area) t (p .count) (l .done) k (s .pre .0 .0) (few batch .0) (now (s .args .x)) (l .window) _ (s .pre .1) (omega (arith, few batch .2, l .inv .1, s .pre .3)) (laid .target-records .ensures) (c .before .is-front .ensures) (not-false _ (c .if2 .left))
+      batch-same (records p) (p .each) (recordLength 4) (joined s) (long p) t (p .count) (l .done) k (few batch .0) (now (s .args .x)) (l .window) _ (s .pre .1) (omega (arith, few batch .2, l .inv .1, s .pre .3)) (laid .target-records .ensures) (c .before .is-front .ensures) (not-false _ (c .if2 .left))
           ∙ l .inv .3,
     )
 
@@ -139,7 +151,7 @@ returns-2 c =
     let l = c .before .before .loop in
     let s = c .before .before .before .before .before .before in
     let p = s .args .p in
-    sym (targets-end (p .mask) (p .area) (p .count - l .done) (l .done * recordLength 4) _ (now (s .args .x)) (omega arith) (omega (arith, s .pre .1))) ∙ l .inv .3
+    sym (batch-end (records p) (p .each) (recordLength 4) (joined s) (long p) (p .count - l .done) (l .done * recordLength 4) _ (now (s .args .x)) (omega arith) (omega (arith, s .pre .1))) ∙ l .inv .3
 
 pub same-targets-spec : {M : Type 1} → statement M
 same-targets-spec =

@@ -31,6 +31,9 @@ alone-requires-3 c κs = omega (arith, body-bound (c .before .before .args .kind
 alone-requires-4 : tie.Need-alone-requires-4
 alone-requires-4 c κs = omega (arith, body-bound (c .before .before .args .kind))
 
+with-scatterers-requires : tie.Need-with-scatterers-requires
+with-scatterers-requires c κs = c .before .before .pre .0 ∙ ap bodyLength (c .match .keys8)
+
 alone-requires-5 : tie.Need-alone-requires-5
 alone-requires-5 c κs = omega (arith, body-bound (c .before .before .before .args .kind))
 
@@ -71,15 +74,21 @@ returns-7 : tie.Need-returns-7
 unfolding leadOf typeOf given calledFor eachTakes
 returns-7 c = (c .alone4 .ensures .0, rw (c .before .match .keys7) (c .alone4 .ensures .1))
 
--- any other
+-- an HRR segment's
 returns-8 : tie.Need-returns-8
-returns-8 c =
+returns-8 c = (c .with-scatterers .ensures .0, rw (c .before .match .keys8) (c .with-scatterers .ensures .1))
+
+-- any other
+returns-9 : tie.Need-returns-9
+returns-9 c =
     let a = c .before .before .before .before .args in
-    let not9 = c .before .before .match .rest .0 in
-    let not7 = not9 .0 .0 in
-    let not3 = not7 .0 .0 in (
+    let not10 = c .before .before .match .rest .0 in
+    let not8 = not10 .0 .0 in
+    let not5 = not8 .0 .0 in
+    let not2 = not5 .0 .0 in (
       c .alone5 .ensures .0,
-      c .alone5 .ensures .1 ∙ other-lead (now (a .b)) (a .kind) (not3 .0 .1) (not3 .1) (not7 .0 .1) (not7 .1) (not9 .0 .1) (not9 .1) (c .before .before .match .rest .1),
+      c .alone5 .ensures .1
+          ∙ other-lead (now (a .b)) (a .kind) (not2 .1) (not5 .0 .1) (not5 .1) (not8 .0 .1) (not8 .1) (not10 .0 .1) (not10 .1) (c .before .before .match .rest .1),
     )
 
 pub lead-of-spec : {M : Type 1} → statement M
@@ -96,6 +105,7 @@ lead-of-spec =
     (λ c κs. search needs)
     alone-requires-3
     alone-requires-4
+    with-scatterers-requires
     (λ c. search needs)
     alone-requires-5
     returns
@@ -105,4 +115,5 @@ lead-of-spec =
     returns-5
     returns-6
     returns-7
-    returns-8)
+    returns-8
+    returns-9)

@@ -64,15 +64,16 @@ put-leader-requires c κs =
     let a = s .args in
     let t = other .before .if1 .left in
     let p = other .if2 .left in
-    let size = rw (ne-eqb (a .kind) 4 t, ne-eqb (a .kind) 6 p) at (s .pre .0 .2) in
-    ((s .pre .0 .0, s .pre .0 .1, size), omega (arith, ap length (leader-spelt (now (a .leader)) (a .kind) (now (a .b)) t p), s .pre .1))
+    let size = rw (ne-eqb (a .kind) 4 t, ne-eqb (a .kind) 6 p, ne-eqb (a .kind) 12 (s .pre .0 .5)) at (s .pre .0 .2) in
+    ((s .pre .0 .0, s .pre .0 .1, size), omega (arith, ap length (leader-spelt (now (a .leader)) (a .kind) (now (a .b)) t p (s .pre .0 .5)), s .pre .1))
 
 returns-3 : tie.Need-returns-3
 returns-3 c =
     let put = c .before .before in
     let other = put .before .before in
-    let a = other .before .before .before .before .before .args in
-    let e = leader-spelt (now (a .leader)) (a .kind) (now (a .b)) (other .before .if1 .left) (other .if2 .left) in
+    let s = other .before .before .before .before .before in
+    let a = s .args in
+    let e = leader-spelt (now (a .leader)) (a .kind) (now (a .b)) (other .before .if1 .left) (other .if2 .left) (s .pre .0 .5) in
     (put .put-leader .ensures .0 ∙ ap length e, put .put-leader .ensures .1 ∙ ap (sets (now (a .o)) 0) e)
 
 pub put-record-spec : {M : Type 1} → statement M

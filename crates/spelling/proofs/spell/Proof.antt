@@ -12,7 +12,7 @@ use lib.Seq.{sets}
 use Rattle.octets.proofs.Parts.{tail-is}
 use Rattle.format.specs.Writer.{Listed, listed, spell}
 use Rattle.sheet_walk.proofs.Places.{WholeAt, at-place}
-use Rattle.spelling.proofs.Walk.{Left, header, spell-length-is, all-left, packet-stored, adds, has-room, spellable, stored-follower, stored-leader, none-left}
+use Rattle.spelling.proofs.Walk.{Left, header, spell-length-is, all-left, packet-stored, adds, has-room, begins-with, then-within, spellable, turned-follower, turned-leader, stored, none-left}
 use Rattle.spelling.proofs.spell.Statement.{statement}
 use Rattle.spelling.proofs.spell.Tie as tie
 
@@ -83,71 +83,102 @@ room t =
 add-from : tie.Need-add-from Inv-loop μ-loop
 add-from c = omega (arith, here c .within, here c .fits)
 
-sub-put-record : tie.Need-sub-put-record Inv-loop μ-loop
-sub-put-record c = c .before .before .before .before .loop .inv .leader .within
+sub-put-next : tie.Need-sub-put-next Inv-loop μ-loop
+sub-put-next c = c .before .before .before .before .loop .inv .leader .within
 
-part-put-record-start : tie.Need-part-put-record-start Inv-loop μ-loop
-part-put-record-start c =
+part-put-next-start : tie.Need-part-put-next-start Inv-loop μ-loop
+part-put-next-start c =
     let l = c .before .before .before .before .loop .inv .leader in
     omega (arith, l .within, l .fits)
 
-part-put-record-end : tie.Need-part-put-record-end Inv-loop μ-loop
-part-put-record-end c =
+part-put-next-end : tie.Need-part-put-next-end Inv-loop μ-loop
+part-put-next-end c =
     let l = c .before .before .before .before .loop .inv .leader in
     omega (arith, l .within, l .fits)
 
-sub-put-record-2 : tie.Need-sub-put-record-2 Inv-loop μ-loop
-sub-put-record-2 c = omega (arith, here (c .before) .within)
+sub-put-next-2 : tie.Need-sub-put-next-2 Inv-loop μ-loop
+sub-put-next-2 c = omega (arith, here (c .before) .within)
 
-part-put-record-start-2 : tie.Need-part-put-record-start-2 Inv-loop μ-loop
-part-put-record-start-2 c = omega (arith, here (c .before) .within, here (c .before) .fits)
+part-put-next-start-2 : tie.Need-part-put-next-start-2 Inv-loop μ-loop
+part-put-next-start-2 c = omega (arith, here (c .before) .within, here (c .before) .fits)
 
-part-put-record-end-2 : tie.Need-part-put-record-end-2 Inv-loop μ-loop
-part-put-record-end-2 c = omega (arith, here (c .before) .within, here (c .before) .fits)
+part-put-next-end-2 : tie.Need-part-put-next-end-2 Inv-loop μ-loop
+part-put-next-end-2 c = omega (arith, here (c .before) .within, here (c .before) .fits)
 
-sub-put-record-3 : tie.Need-sub-put-record-3 Inv-loop μ-loop
-sub-put-record-3 c = omega (arith, room (c .before .before))
+sub-put-next-3 : tie.Need-sub-put-next-3 Inv-loop μ-loop
+sub-put-next-3 c = omega (arith, here (c .before .before) .fits)
 
-part-put-record-start-3 : tie.Need-part-put-record-start-3 Inv-loop μ-loop
-part-put-record-start-3 c = omega (arith, room (c .before .before))
+part-put-next-start-3 : tie.Need-part-put-next-start-3 Inv-loop μ-loop
+part-put-next-start-3 c = omega (arith, here (c .before .before) .fits)
 
-put-record-requires : tie.Need-put-record-requires Inv-loop μ-loop
-put-record-requires c κs =
-    let t = c .before .before .before in
+sub-put-next-4 : tie.Need-sub-put-next-4 Inv-loop μ-loop
+sub-put-next-4 c = omega (arith, room (c .before .before .before))
+
+part-put-next-start-4 : tie.Need-part-put-next-start-4 Inv-loop μ-loop
+part-put-next-start-4 c = omega (arith, room (c .before .before .before))
+
+put-next-requires : tie.Need-put-next-requires Inv-loop μ-loop
+put-next-requires c κs =
+    let t = c .before .before .before .before in
     let l = t .before .before .before .before .loop in
-    (spellable _ _ _ _ _ _ _ (l .inv) _ _ (here t), rw (tail-is (l .to) (l .o), length-drop) (omega (arith, room t)))
+    let behind = tail-is (t .before .kind .given .0 .1 .0) (now (t .before .before .before .before .before .before .before .before .before .before .before .args .x)) in (
+      spellable _ _ _ _ _ _ _ (l .inv) _ _ (here t),
+      λ e. rw behind (begins-with _ _ _ _ _ _ _ (l .inv) _ _ (here t) e),
+      rw (tail-is (l .to) (l .o), length-drop, behind) (omega (arith, room t)),
+    )
+
+-- a record that is stored, with what stands behind it on the sheet
+abbrev Put : Type 0
+Put = tie.After-put-next Inv-loop μ-loop
+
+put-long : (p : Put) → let t = p .before .before .before .before .before in let l = t .before .before .before .before .loop in
+    p .put-next .result .written ≡ length (adds _ _ (l .o) (l .at) (l .to) (l .begins) (l .ends) (l .inv) _ _ (here t))
+put-long p =
+    let t = p .before .before .before .before .before in
+    rw (tail-is (t .before .kind .given .0 .1 .0) (now (t .before .before .before .before .before .before .before .before .before .before .before .args .x))) at (p .put-next .ensures .0 .1)
+
+put-within : (p : Put) → let t = p .before .before .before .before .before in t .before .kind .given .0 .1 .0 + p .put-next .result .read ≤ length (now (t .before .before .before .before .before .before .before .before .before .before .before .args .x))
+put-within p =
+    let t = p .before .before .before .before .before in
+    let l = t .before .before .before .before .loop in
+    omega (arith, then-within _ _ _ _ _ _ _ (l .inv) _ _ (here t), p .put-next .ensures .0 .0)
 
 add-to : tie.Need-add-to Inv-loop μ-loop
 add-to c =
-    let put = c .before .before in
-    let t = put .before .before .before .before in
+    let put = c .before .before .before in
+    let t = put .before .before .before .before .before in
     let loop = t .before .before .before .before in
     let copied = loop .before .before .before in
-    omega (arith, put .put-record .ensures .0, room t, loop .loop .inv .same, copied .copy32 .kept .1 .1 .0, copied .before .before .before .before .good)
+    omega (arith, put-long put, room t, loop .loop .inv .same, copied .copy32 .kept .1 .1 .0, copied .before .before .before .before .good)
+
+add-at : tie.Need-add-at Inv-loop μ-loop
+add-at c =
+    let put = c .before .before .before .before in
+    omega (arith, put-within put, put .before .before .before .before .before .before .before .before .before .before .before .before .before .before .before .before .good)
 
 loop-less : tie.Need-loop-less Inv-loop μ-loop
-loop-less c =
-    let h = here (c .before .before .before .before .before .before .before .before) in
-    omega (arith, h .within, h .fits)
+loop-less c = omega (arith, here (c .before .before .before .before .before .before .before .before .before .before .before) .within, put-within (c .before .before .before .before .before .before))
 
 loop-again : tie.Need-loop-again Inv-loop μ-loop
 loop-again c =
-    let put = c .before .before .before .before in
-    let t = put .before .before .before .before in
+    let put = c .before .before .before .before .before .before in
+    let t = put .before .before .before .before .before in
     let l = t .before .before .before .before .loop in
-    stored-leader _ _ _ _ _ _ _ (l .inv) _ _ (here t) _ (put .put-record .ensures .0) (put .put-record .ensures .1) (sym (c .before .is-follower .ensures) ∙ not-true _ (c .if1 .taken))
+    let stored-next = rw (tail-is (t .before .kind .given .0 .1 .0) (now (t .before .before .before .before .before .before .before .before .before .before .before .args .x))) at (put .put-next .ensures .1) in
+    stored _ _ _ _ _ _ _ (l .inv) _ _ (here t) _ _ (put-long put) (put .put-next .ensures .0 .0) stored-next
+    (turned-leader _ _ _ _ _ _ _ (l .inv) _ _ (here t) (sym (c .before .is-follower .ensures) ∙ not-true _ (c .if1 .taken)))
 
 loop-less-2 : tie.Need-loop-less-2 Inv-loop μ-loop
-loop-less-2 c =
-    let h = here (c .before .before .before .before .before .before .before .before) in
-    omega (arith, h .within, h .fits)
+loop-less-2 c = omega (arith, here (c .before .before .before .before .before .before .before .before .before .before .before) .within, put-within (c .before .before .before .before .before .before))
 
 loop-again-2 : tie.Need-loop-again-2 Inv-loop μ-loop
 loop-again-2 c =
-    let put = c .before .before .before .before in
-    let t = put .before .before .before .before in
+    let put = c .before .before .before .before .before .before in
+    let t = put .before .before .before .before .before in
     let l = t .before .before .before .before .loop in
-    stored-follower _ _ _ _ _ _ _ (l .inv) _ _ (here t) _ (put .put-record .ensures .0) (put .put-record .ensures .1) (sym (c .before .is-follower .ensures) ∙ not-false _ (c .if1 .left))
+    let stored-next = rw (tail-is (t .before .kind .given .0 .1 .0) (now (t .before .before .before .before .before .before .before .before .before .before .before .args .x))) at (put .put-next .ensures .1) in
+    stored _ _ _ _ _ _ _ (l .inv) _ _ (here t) _ _ (put-long put) (put .put-next .ensures .0 .0) stored-next
+    (turned-follower _ _ _ _ _ _ _ (l .inv) _ _ (here t) (sym (c .before .is-follower .ensures) ∙ not-false _ (c .if1 .left)))
 
 pub spell-spec : {M : Type 1} → statement M
 spell-spec =
@@ -166,17 +197,21 @@ spell-spec =
     returns-2
     (λ c. search needs)
     add-from
-    sub-put-record
-    part-put-record-start
-    part-put-record-end
-    sub-put-record-2
-    part-put-record-start-2
-    part-put-record-end-2
-    sub-put-record-3
-    part-put-record-start-3
+    sub-put-next
+    part-put-next-start
+    part-put-next-end
+    sub-put-next-2
+    part-put-next-start-2
+    part-put-next-end-2
+    sub-put-next-3
+    part-put-next-start-3
     (λ c. search needs)
-    put-record-requires
+    sub-put-next-4
+    part-put-next-start-4
+    (λ c. search needs)
+    put-next-requires
     add-to
+    add-at
     (λ c κs. search needs)
     loop-less
     loop-again

@@ -4,12 +4,13 @@
 use borrow.Author.Needs.{needs}
 use native.Mathlib.Omega.{arith}
 use mathlib.Core.Path.{sym, _∙_}
-use Prim.Native.Nat.{_-_}
+use Prim.Native.Nat.{_+_, _-_, _*_, _≤_, _<_}
 use borrow.Author.Tests.{eq-eqb, ne-eqb}
 use denote.Ref.{now}
-use lib.ListN.{length}
+use lib.ListN.{length, drop, length-drop}
+use Rattle.format.specs.Lengths.{recordLength}
 use Rattle.sheet_walk.proofs.Places.{WholeAt, at-place}
-use Rattle.spelling.proofs.Surveyed.{Walked, no-header, start, at-end, at-cut, again, onward, turn}
+use Rattle.spelling.proofs.Surveyed.{Walked, no-header, start, at-end, at-cut, again, onward, turn, passed-bound, past-passed}
 use Rattle.spelling.proofs.survey_of.Statement.{statement}
 use Rattle.spelling.proofs.survey_of.Tie as tie
 
@@ -79,17 +80,48 @@ returns-6 c =
     c .incomplete .ensures
     ∙ sym (onward _ _ _ _ _ (l .inv) _ _ (here (turning .before)) (turning .if3 .left) (sym (c .before .enum-told3 .given .1) ∙ counted .count .ensures))
 
-loop-less : tie.Need-loop-less Inv-loop μ-loop
-loop-less c =
-    let h = here (c .before .before .before .before .before .before) in
-    omega (arith, h .within, h .fits)
-
-loop-again : tie.Need-loop-again Inv-loop μ-loop
-loop-again c =
+-- what is kept behind the record
+behind : (c : tie.After-known-told2 Inv-loop μ-loop) → let f = c .before .f .given .0 in
+    Walked (now (c .before .before .before .before .before .before .before .before .before .before .before .before .before .before .args .x)) (c .before .before .before .before .before .before .before .kind .given .0 .1 .0) (f .0) (f .1 .0) (f .1 .1 .0)
+behind c =
     let counted = c .before .before .before in
     let turning = counted .before .before in
     let l = turning .before .before .before .before .before .loop in
     turn _ _ _ _ _ (l .inv) _ _ (here (turning .before)) (turning .if3 .left) _ _ _ (sym (c .before .f .given .1) ∙ counted .count .ensures)
+
+loop-less : tie.Need-loop-less Inv-loop μ-loop
+loop-less c =
+    let h = here (c .before .before .before .before .before .before .before) in
+    omega (arith, h .within, h .fits)
+
+loop-again : tie.Need-loop-again Inv-loop μ-loop
+loop-again c = behind (c .before)
+
+passed-requires : tie.Need-passed-requires Inv-loop μ-loop
+passed-requires c κs = here (c .before .before .before .before .before .before .before) .fits
+
+-- what is passed at once lies within the sheet
+passes : (c : tie.After-passed Inv-loop μ-loop) → let x = now (c .before .before .before .before .before .before .before .before .before .before .before .before .before .before .before .before .args .x) in
+    (c .passed .result ≤ c .before .before .before .f .given .0 .1 .0) × (c .passed .result * recordLength 12 ≤ length (drop (c .before .before .before .before .before .before .before .before .before .kind .given .0 .1 .0) x))
+passes c = passed-bound (c .passed .ensures)
+
+within : (c : tie.After-passed Inv-loop μ-loop) → let end = c .before .before .before .before .before .before .before .before .before .kind .given .0 .1 .0 in
+    (c .before .before .before .before .before .before .before .before .before .before .before .before .loop .at < end) × (end + c .passed .result * recordLength 12 ≤ length (now (c .before .before .before .before .before .before .before .before .before .before .before .before .before .before .before .before .args .x)))
+within c =
+    let h = here (c .before .before .before .before .before .before .before .before) in
+    (h .within, omega (arith, passes c .1, h .fits, length-drop (c .before .before .before .before .before .before .before .before .before .kind .given .0 .1 .0) (now (c .before .before .before .before .before .before .before .before .before .before .before .before .before .before .before .before .args .x))))
+
+mul-at : tie.Need-mul-at Inv-loop μ-loop
+mul-at c = omega (arith, within c .1, c .before .before .before .before .before .before .before .before .before .before .before .before .before .before .before .before .good)
+
+add-at : tie.Need-add-at Inv-loop μ-loop
+add-at c = omega (arith, within c .1, c .before .before .before .before .before .before .before .before .before .before .before .before .before .before .before .before .good)
+
+loop-less-2 : tie.Need-loop-less-2 Inv-loop μ-loop
+loop-less-2 c = omega (arith, within c .0, within c .1)
+
+loop-again-2 : tie.Need-loop-again-2 Inv-loop μ-loop
+loop-again-2 c = past-passed _ _ _ _ _ _ (here (c .before .before .before .before .before .before .before .before) .fits) (behind (c .before .before)) (c .passed .ensures)
 
 pub survey-of-spec : {M : Type 1} → statement M
 survey-of-spec =
@@ -118,4 +150,10 @@ survey-of-spec =
     returns-6
     (λ c. search needs)
     loop-less
-    loop-again)
+    loop-again
+    passed-requires
+    (λ c. passes c .0)
+    mul-at
+    add-at
+    loop-less-2
+    loop-again-2)

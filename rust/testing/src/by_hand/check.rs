@@ -1,8 +1,8 @@
-//! The first walk: every row of document 01, and nothing written.
+//! The first walk: every row, and nothing written.
 use super::dwells::Dwells;
 use super::position::Area;
 use super::spread::Places;
-use super::{bytes, mask, targets, text, Fault, Reading, HEADER};
+use super::{bytes, hrr, mask, targets, text, Fault, Reading, HEADER};
 use gmti::Answer;
 
 /// The version of the packet, unless one of the rows 2 to 5 applies.
@@ -71,6 +71,7 @@ fn segment(reading: Reading, rest: &[u8], counts: &mut Counts) -> Result<usize, 
         10 => kept(size, 14)?,
         13 => kept(size, 23)?,
         3 if reading.withholds => return Err((15, 0)),
+        3 if !reading.version_1 => hrr::check(&rest[5..size])?,
         _ => 6 + pieces(size - 5),
     };
     Ok(size)

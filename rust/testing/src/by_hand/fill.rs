@@ -1,5 +1,5 @@
 //! The second walk: the records of a packet without fault.
-use super::{bytes, mask, targets, Reading, HEADER};
+use super::{bytes, hrr, mask, targets, Reading, HEADER};
 
 /// Sets a packet out on a sheet of just the right length.
 #[inline(always)]
@@ -27,6 +27,7 @@ fn segment(reading: Reading, rest: &[u8], size: usize, sheet: &mut [u8]) -> usiz
         }
         10 => kept::<14>(9, &rest[5..], sheet),
         13 => kept::<23>(10, &rest[5..], sheet),
+        3 if !reading.version_1 => hrr::fill(&rest[5..size], sheet),
         _ => {
             kept::<1>(7, rest, sheet);
             sheet[2..6].copy_from_slice(&(size as u32 - 5).to_be_bytes());
@@ -37,7 +38,7 @@ fn segment(reading: Reading, rest: &[u8], size: usize, sheet: &mut [u8]) -> usiz
 
 /// A kind and bytes as they are.
 #[inline(always)]
-fn kept<const LENGTH: usize>(kind: u8, from: &[u8], sheet: &mut [u8]) -> usize {
+pub fn kept<const LENGTH: usize>(kind: u8, from: &[u8], sheet: &mut [u8]) -> usize {
     let record = &mut sheet[..1 + LENGTH];
     record[0] = kind;
     record[1..].copy_from_slice(&from[..LENGTH]);
@@ -87,7 +88,7 @@ fn dwell(reading: Reading, from: &[u8], sheet: &mut [u8]) -> usize {
 
 /// Copies some fields where the mask announces them, and gives the place of those that follow in the body.
 #[inline(always)]
-fn group<const LENGTH: usize>(announced: u64, from: &[u8], at: usize, record: &mut [u8], place: usize) -> usize {
+pub fn group<const LENGTH: usize>(announced: u64, from: &[u8], at: usize, record: &mut [u8], place: usize) -> usize {
     if announced == 0 {
         return at;
     }

@@ -1,7 +1,7 @@
 //! The mask of a dwell: bit 65 - n announces field n.
 
 /// The bits of the fields from one number to another.
-const fn fields(from: u32, to: u32) -> u64 {
+pub const fn fields(from: u32, to: u32) -> u64 {
     (u64::MAX >> (from - 2)) & (u64::MAX << (65 - to))
 }
 

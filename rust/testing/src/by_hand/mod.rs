@@ -1,12 +1,14 @@
 //! A reader written by hand for speed, in plain safe Rust: what the verified reader is measured against.
 //!
-//! It does the whole work of document 01: the rows 1 to 16 of both readings, the counts and the sheet. It walks over the segments twice:
-//! the first walk tries every row and writes nothing, so that a refusal leaves the sheet as it was; the second sets the records out. Only
-//! dwells that are out of order take a further walk, to be counted. For targets it has a loop of its own, with all places constant, for
-//! each of the masks that are met most, and shifts bytes within words for the others.
+//! It does the whole work of document 01 and of the requests: every row of both readings, the counts and the sheet. It walks over the
+//! segments twice: the first walk tries every row and writes nothing, so that a refusal leaves the sheet as it was; the second sets the
+//! records out. Only dwells that are out of order take a further walk, to be counted. For targets it has a loop of its own, with all places
+//! constant, for each of the masks that are met most, and shifts bytes within words for the others; for scatterers it has a loop for each
+//! way in which their fields can be wide.
 mod check;
 mod dwells;
 mod fill;
+mod hrr;
 mod mask;
 mod position;
 mod spread;

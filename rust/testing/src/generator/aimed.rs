@@ -60,7 +60,7 @@ fn is_possible(first: Fault, second: Fault) -> bool {
     let both = [first, second];
     let is = |fault: Fault| both.contains(&fault);
     let same_kind = std::mem::discriminant(&first) == std::mem::discriminant(&second);
-    let is_mask = matches!(first, Fault::Mask(_) | Fault::NewAngles(_));
+    let is_mask = matches!(first, Fault::Mask(_) | Fault::NewAngles(_) | Fault::HrrMask(_));
     if is(Fault::NoPair) && is(Fault::Latitude) || is(Fault::SizeBelow) && is(Fault::SizePast) {
         return false;
     }

@@ -1,5 +1,5 @@
-//! The faults that a packet can be given, by the rows 2 to 15: where each can stand, and which of two is named.
-use super::tables::{ALWAYS, BODY_TEXT, HEADER_TEXT};
+//! The faults that a packet can be given, by the rows 2 to 15, 21 and 22: where each can stand, and which of two is named.
+use super::tables::{ALWAYS, BODY_TEXT, HEADER_TEXT, HRR_ALWAYS, HRR_SPARE, HRR_TYPE};
 
 /// One thing wrong with a packet, or new in Edition 3.
 #[derive(Clone, Copy, Debug, PartialEq, Eq, PartialOrd, Ord, Hash)]
@@ -50,6 +50,14 @@ pub enum Fault {
     Latitude,
     /// Row 15: J14.
     NewMode,
+    /// Row 21, with the field that is missing or the number of the spare bit that is set. The answer names neither.
+    HrrMask(u32),
+    /// Row 22: H25 not 1 or 2.
+    MagnitudeBytes,
+    /// Row 22: H26 above 2.
+    PhaseBytes,
+    /// Row 22: S2 not what mask, widths and counts give.
+    HrrSize,
 }
 
 /// Where a fault can stand.
@@ -83,6 +91,8 @@ impl Fault {
             Fault::Month | Fault::Day | Fault::D4 | Fault::NoPair | Fault::TargetValue(_) => 13,
             Fault::Latitude => 14,
             Fault::NewType | Fault::NewAngles(_) | Fault::NewField | Fault::NewMode => 15,
+            Fault::HrrMask(_) => 21,
+            Fault::MagnitudeBytes | Fault::PhaseBytes | Fault::HrrSize => 22,
         }
     }
 
@@ -108,7 +118,8 @@ impl Fault {
             Fault::Short | Fault::Long | Fault::Version | Fault::PacketSize | Fault::HeaderText(_) => Host::Header,
             Fault::Left => Host::End,
             Fault::UnknownType | Fault::SizeBelow | Fault::SizePast => Host::Any,
-            Fault::NewType => Host::Type(3),
+            Fault::NewType => Host::Type(HRR_TYPE),
+            _ if self.is_of_hrr() => Host::Type(HRR_TYPE),
             Fault::BodySize(segment_type) | Fault::Text(segment_type, _) => Host::Type(segment_type),
             Fault::Month | Fault::Day => Host::Type(1),
             Fault::NewMode => Host::Type(5),
@@ -120,9 +131,14 @@ impl Fault {
     pub fn version(self) -> Option<u8> {
         match self {
             Fault::Mask(28..=30 | 49) => Some(1),
-            _ if self.is_new() => Some(3),
+            _ if self.is_new() || self.is_of_hrr() => Some(3),
             _ => None,
         }
+    }
+
+    /// Whether only an HRR segment has it, and only in the Edition 3 reading: that of Edition 1 names the segment's type.
+    fn is_of_hrr(self) -> bool {
+        matches!(self, Fault::BodySize(HRR_TYPE) | Fault::HrrMask(_) | Fault::MagnitudeBytes | Fault::PhaseBytes | Fault::HrrSize)
     }
 
     /// Whether it is one of row 15, which only the Edition 1 reading of a version 3 packet has.
@@ -148,8 +164,8 @@ impl Fault {
             Fault::SizeBelow | Fault::SizePast => 6,
             Fault::NewType => 7,
             Fault::BodySize(_) => 8,
-            Fault::Text(..) => 9,
-            Fault::Mask(_) => 10,
+            Fault::Text(..) | Fault::HrrMask(_) => 9,
+            Fault::Mask(_) | Fault::MagnitudeBytes | Fault::PhaseBytes | Fault::HrrSize => 10,
             Fault::NewAngles(_) => 11,
             Fault::NewField => 12,
             Fault::DwellSize => 13,
@@ -166,13 +182,15 @@ impl Fault {
         let mut all = vec![Fault::Short, Fault::Long, Fault::Version, Fault::PacketSize];
         all.extend(HEADER_TEXT.map(|field| Fault::HeaderText(field.number)));
         all.extend([Fault::Left, Fault::UnknownType, Fault::SizeBelow, Fault::SizePast, Fault::NewType]);
-        all.extend([1, 2, 5, 6, 10, 13].map(Fault::BodySize));
+        all.extend([1, 2, 3, 5, 6, 10, 13].map(Fault::BodySize));
         all.extend(BODY_TEXT.map(|(segment_type, field)| Fault::Text(segment_type, field.number)));
         all.extend(Fault::of_masks());
         all.extend([28, 29, 30].map(Fault::NewAngles));
         all.extend([Fault::NewField, Fault::DwellSize, Fault::Month, Fault::Day, Fault::D4, Fault::NoPair]);
         all.extend([37, 42, 46].map(Fault::TargetValue));
         all.extend([Fault::Latitude, Fault::NewMode]);
+        all.extend(HRR_ALWAYS.into_iter().chain(HRR_SPARE).map(Fault::HrrMask));
+        all.extend([Fault::MagnitudeBytes, Fault::PhaseBytes, Fault::HrrSize]);
         all
     }
 

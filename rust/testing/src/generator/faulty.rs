@@ -1,11 +1,10 @@
 //! Segments with faults.
 use super::faults::{Fault, Host};
+use super::hrr;
 use super::random::Random;
 use super::spelling::{Dwell, Segment};
-use super::tables::{
-    bit, fixed_body, mask_of, ALWAYS, ANGLES, BODY_TEXT, DELTAS, GROUPS, J14_PLACE, LAST_FIELD, M6_PLACE, M7_PLACE, NEW_MODES,
-};
-use super::tables::{TextField, TextSet, ABSOLUTE, OPAQUE_TYPES, OWN_TYPES};
+use super::tables::{bit, fixed_body, is_known, mask_of, TextField, TextSet, ABSOLUTE, ALWAYS, ANGLES, BODY_TEXT, DELTAS, GROUPS};
+use super::tables::{HRR_MASK, HRR_TYPE, J14_PLACE, LAST_FIELD, M6_PLACE, M7_PLACE, NEW_MODES};
 use super::valid::{self, not_text, Pair, Style};
 
 /// A segment with these faults, and the faults in the order in which they are looked at. An S2 past the end is left to the packet.
@@ -14,9 +13,10 @@ pub fn segment(random: &mut Random, style: Style, faults: &[Fault]) -> Option<(S
         Host::Type(segment_type) => Some(segment_type),
         _ => None,
     });
-    let segment_type = host.unwrap_or(random.pick([1, 2, 5, 6, 7, 10, 13]));
+    let segment_type = host.unwrap_or(random.pick([1, 2, 3, 5, 6, 7, 10, 13]));
     let (mut segment, mut order) = match segment_type {
         2 => dwell(random, style, faults)?,
+        HRR_TYPE if style.version == 3 => high_range(random, faults),
         _ => plain(random, style, segment_type, faults),
     };
     for fault in faults.iter().filter(|fault| fault.host() == Host::Any) {
@@ -37,19 +37,29 @@ type Placed = ((u32, usize, u32), Fault);
 /// A type that is not known.
 pub fn unknown_type(random: &mut Random) -> u8 {
     let any = random.byte();
-    if OPAQUE_TYPES.contains(&any) || OWN_TYPES.contains(&any) {
+    if is_known(any) {
         random.pick([0, 14, 100, 103, 255])
     } else {
         any
     }
 }
 
-/// A segment that is not a dwell.
+/// An HRR segment of a version 3 packet. To the Edition 1 reading it is new, whatever else it is.
+fn high_range(random: &mut Random, faults: &[Fault]) -> (Segment, Vec<Placed>) {
+    let mut segment = hrr::faulty(random, faults);
+    if faults.contains(&Fault::BodySize(HRR_TYPE)) {
+        spoil_size(random, &mut segment);
+    }
+    let mut order = placed(faults, &[]);
+    if !faults.contains(&Fault::NewType) {
+        order.push((Fault::NewType.place(0), Fault::NewType));
+    }
+    (segment, order)
+}
+
+/// A segment without a mask that is read.
 fn plain(random: &mut Random, style: Style, segment_type: u8, faults: &[Fault]) -> (Segment, Vec<Placed>) {
-    let mut segment = match segment_type {
-        3 => Segment::new(3, valid::opaque(random, style).body),
-        _ => valid::segment_of(random, style, segment_type),
-    };
+    let mut segment = valid::segment_of(random, style, segment_type);
     if faults.contains(&Fault::Text(6, 3)) && segment.body.len() == 20 {
         segment.body.extend(valid::text(random, TextSet::Lines, 33));
     }
@@ -98,6 +108,7 @@ fn spoil_size(random: &mut Random, segment: &mut Segment) {
     let short = random.below(20);
     let wrong = match (segment.segment_type, fixed_body(segment.segment_type)) {
         (2, _) => random.below(8),
+        (HRR_TYPE, _) => random.below(HRR_MASK),
         (6, _) => random.pick([19, short]),
         (_, Some(right)) => {
             let any = random.below(2 * right);

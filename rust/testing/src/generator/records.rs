@@ -1,5 +1,6 @@
 //! A sheet as a list of records, so that it can be changed record by record.
-use super::tables::{announced_width, D2_PLACE, RECORD_LENGTHS};
+use super::spelling::Hrr;
+use super::tables::{announced_width, hrr_place, hrr_width, D2_PLACE, HRR_MASK, RECORD_LENGTHS};
 use crate::independent;
 
 /// One record.
@@ -39,9 +40,23 @@ impl Record {
         }
     }
 
-    /// The mask of a kind 3.
+    /// The mask of a kind 3 or 11; the five bytes of the latter are the highest.
     pub fn mask(&self) -> u64 {
-        self.body.iter().take(8).fold(0, |mask, byte| mask << 8 | u64::from(*byte))
+        let length = if self.kind == 11 { HRR_MASK } else { 8 };
+        let mut mask = [0; 8];
+        for (byte, found) in mask.iter_mut().zip(self.body.iter().take(length)) {
+            *byte = *found;
+        }
+        u64::from_be_bytes(mask)
+    }
+
+    /// The mask and the values of a kind 11, all of them as they stand there.
+    pub fn hrr(&self) -> Hrr {
+        let mut values = [0; 32];
+        for field in 2..=31 {
+            values[field as usize] = self.number(hrr_place(u64::MAX, field), hrr_width(field));
+        }
+        Hrr { mask: self.mask(), values, scatterers: Vec::new() }
     }
 
     /// D2 and D3 of a kind 3.
@@ -78,7 +93,7 @@ pub fn join(records: &[Record]) -> Vec<u8> {
 /// How many bytes these records spell.
 pub fn spelt_length(records: &[Record]) -> usize {
     let mut length = 0;
-    let mut mask = 0;
+    let (mut mask, mut scatterer) = (0, 0);
     for record in records {
         length += match record.kind {
             1 => 32,
@@ -94,6 +109,11 @@ pub fn spelt_length(records: &[Record]) -> usize {
             8 => 5 + 68,
             9 => 5 + 14,
             10 => 5 + 23,
+            11 => {
+                scatterer = record.hrr().scatterer_widths().iter().sum();
+                5 + hrr_place(record.mask(), 32)
+            }
+            12 => scatterer,
             _ => 0,
         };
     }

@@ -41,6 +41,24 @@ pub enum SheetFault {
     LonePiece,
     /// Row 18: a target in the place of a piece.
     TargetForPiece,
+    /// Row 18: a scatterer fewer than H6, or H7 and H8, call for.
+    ScattererMissing,
+    /// Row 18: a scatterer more.
+    ScattererExtra,
+    /// Row 18: another H6, or another H7 where it is absent.
+    ScattererCount,
+    /// Row 18: H6, or H7, kept without its bit in the mask, so that another number is called for.
+    AbsentScattererCount,
+    /// Row 18: another record between a kind 11 and its last scatterer.
+    ScatterersParted,
+    /// Row 18: a scatterer that follows no kind 11.
+    LoneScatterer,
+    /// Row 18: a piece in the place of a scatterer.
+    PieceForScatterer,
+    /// Row 18: a scatterer in the place of a target.
+    ScattererForTarget,
+    /// Row 18: a scatterer in the place of a piece.
+    ScattererForPiece,
     /// Row 19: P1 refused.
     Version,
     /// Row 19: P2 not the length.
@@ -83,11 +101,27 @@ pub enum SheetFault {
     Older,
     /// Row 19: more than 65,536 bytes.
     TooLong,
+    /// Row 19: an HRR mask at fault.
+    HrrMask,
+    /// Row 19: H25.
+    MagnitudeBytes,
+    /// Row 19: H26.
+    PhaseBytes,
+    /// Row 19: the high byte of a scatterer's value that has one byte.
+    HighByte,
+    /// Row 19: an absent field of a scatterer that is not zero.
+    AbsentScattererField,
+    /// Row 19: an absent field of a kind 11 that is not zero.
+    AbsentHrrField,
+    /// Row 19: kind 11 behind a header of version 1.
+    HrrVersion,
+    /// Row 19: kind 7 of type 3 behind a header of version 3.
+    OpaqueHrr,
 }
 
 impl SheetFault {
     /// Every fault, in the order of the rows.
-    pub const ALL: [SheetFault; 40] = [
+    pub const ALL: [SheetFault; 57] = [
         SheetFault::Empty,
         SheetFault::UnknownKind,
         SheetFault::Cut,
@@ -107,6 +141,15 @@ impl SheetFault {
         SheetFault::PiecesParted,
         SheetFault::LonePiece,
         SheetFault::TargetForPiece,
+        SheetFault::ScattererMissing,
+        SheetFault::ScattererExtra,
+        SheetFault::ScattererCount,
+        SheetFault::AbsentScattererCount,
+        SheetFault::ScatterersParted,
+        SheetFault::LoneScatterer,
+        SheetFault::PieceForScatterer,
+        SheetFault::ScattererForTarget,
+        SheetFault::ScattererForPiece,
         SheetFault::Version,
         SheetFault::PacketSize,
         SheetFault::HeaderText,
@@ -128,14 +171,28 @@ impl SheetFault {
         SheetFault::OpaqueType,
         SheetFault::Older,
         SheetFault::TooLong,
+        SheetFault::HrrMask,
+        SheetFault::MagnitudeBytes,
+        SheetFault::PhaseBytes,
+        SheetFault::HighByte,
+        SheetFault::AbsentScattererField,
+        SheetFault::AbsentHrrField,
+        SheetFault::HrrVersion,
+        SheetFault::OpaqueHrr,
     ];
 
     /// The row that it makes apply.
     pub fn row(self) -> u32 {
         match self {
             _ if self <= SheetFault::HeaderLate => 17,
-            _ if self <= SheetFault::TargetForPiece => 18,
+            _ if self <= SheetFault::ScattererForPiece => 18,
             _ => 19,
         }
+    }
+
+    /// Whether it stands in the records of an HRR segment, which only a sheet of version 3 has.
+    pub fn is_of_hrr(self) -> bool {
+        let of_order = SheetFault::ScattererMissing..=SheetFault::ScattererForPiece;
+        of_order.contains(&self) || self >= SheetFault::HrrMask
     }
 }

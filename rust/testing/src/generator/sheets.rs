@@ -1,6 +1,5 @@
 //! Sheets of valid packets, and sheets with faults in them.
 use super::aimed::{spoil_packet_size, spoil_version};
-use super::damage;
 use super::faults::Fault;
 use super::faulty::{self, faulty_mask, unknown_type};
 use super::random::Random;
@@ -9,6 +8,7 @@ use super::sheet_faults::SheetFault;
 use super::spelling::Packet;
 use super::tables::{bit, mask_of, names_on_sheets, width, TextSet, ABSOLUTE, D5_PLACE, DELTAS, OWN_TYPES};
 use super::valid::{self, not_text, Pair, Style};
+use super::{damage, hrr_sheets};
 
 /// A sheet, and the row that must refuse it given a long buffer: 0 where it is written.
 #[derive(Clone, Debug)]
@@ -45,7 +45,7 @@ pub fn two(random: &mut Random, first: SheetFault, second: SheetFault) -> Option
 
 /// A sheet with these faults. Those of the later rows come first, since those of the earlier ones leave no sheet in order.
 fn with(random: &mut Random, faults: &[SheetFault]) -> AimedSheet {
-    let mut records = base(random, faults.contains(&SheetFault::Older));
+    let mut records = base(random, faults);
     let mut order = faults.to_vec();
     order.sort();
     for fault in order.iter().rev() {
@@ -54,7 +54,9 @@ fn with(random: &mut Random, faults: &[SheetFault]) -> AimedSheet {
         }
         match fault.row() {
             17 => spoil_list(random, &mut records, *fault),
+            18 if fault.is_of_hrr() => hrr_sheets::spoil_order(random, &mut records, *fault),
             18 => spoil_order(random, &mut records, *fault),
+            _ if fault.is_of_hrr() => hrr_sheets::spoil_sheet(random, &mut records, *fault),
             _ => spoil_sheet(random, &mut records, *fault),
         }
     }
@@ -62,9 +64,12 @@ fn with(random: &mut Random, faults: &[SheetFault]) -> AimedSheet {
     AimedSheet { bytes: join(&records), faults: faults.to_vec(), number }
 }
 
-/// The records of a packet that has a segment of every kind, dwells with each pair, and pieces.
-fn base(random: &mut Random, is_older: bool) -> Vec<Record> {
-    let style = Style { version: if is_older { 3 } else { random.pick([1, 3]) }, new: false };
+/// The records of a packet that has a segment of every kind, dwells with each pair, and pieces; an HRR segment where a fault needs one,
+/// and in half of the packets of version 3 that the Edition 3 reading is given.
+fn base(random: &mut Random, faults: &[SheetFault]) -> Vec<Record> {
+    let is_older = faults.contains(&SheetFault::Older);
+    let needs_hrr = faults.iter().any(|fault| fault.is_of_hrr());
+    let style = Style { version: if is_older || needs_hrr { 3 } else { random.pick([1, 3]) }, new: false };
     let mut segments = Vec::new();
     for pair in [Pair::Neither, Pair::Absolute, Pair::Deltas] {
         let mask = valid::mask(random, style, pair) | mask_of(&[37, 42, 46]);
@@ -87,7 +92,11 @@ fn base(random: &mut Random, is_older: bool) -> Vec<Record> {
         segments.swap(last, random.below(last + 1));
     }
     let packet = Packet::new(valid::header(random, style.version), segments).bytes();
-    split(&sheet_of(if is_older { 1 } else { 3 }, &packet).unwrap_or_default())
+    let mut records = split(&sheet_of(if is_older { 1 } else { 3 }, &packet).unwrap_or_default());
+    if needs_hrr || style.version == 3 && !is_older && random.chance(50) {
+        hrr_sheets::add(random, &mut records);
+    }
+    records
 }
 
 /// The place of one of the records that fit.
@@ -105,9 +114,9 @@ fn spoil_list(random: &mut Random, records: &mut Vec<Record>, fault: SheetFault)
     let later = 1 + random.below(records.len());
     match fault {
         SheetFault::UnknownKind => {
-            let any = random.between(11, 255) as u8;
+            let any = random.between(13, 255) as u8;
             let length = random.below(50);
-            let unknown = Record::new(random.pick([0, 11, 12, 255, any]), random.bytes(length));
+            let unknown = Record::new(random.pick([0, 13, 14, 255, any]), random.bytes(length));
             let at = random.below(records.len() + 1);
             records.insert(at, unknown);
         }

@@ -1,5 +1,5 @@
 //! Packets laid out from their parts, right or wrong.
-use super::tables::{announced_width, bit, width};
+use super::tables::{announced_width, bit, hrr_place, hrr_width, width, HRR_MASK, HRR_TYPE, INDEX_WIDTH};
 
 /// A segment. It claims the size that is given, or else its own.
 #[derive(Clone, Debug)]
@@ -123,7 +123,78 @@ impl Dwell {
     }
 }
 
-/// Adds the low bytes of a value, highest first.
+/// The values of H32.1 to H32.4, each at its own number; the first is unused.
+pub type Scatterer = [u32; 5];
+
+/// An HRR segment of Edition 3: every field has a value, and the mask tells which are spelt.
+#[derive(Clone, Debug)]
+pub struct Hrr {
+    /// H1, in the highest of 64 bits.
+    pub mask: u64,
+    /// H2 to H31, each at its own number; the first two are unused.
+    pub values: [u32; 32],
+    /// Its scatterers; H6, or H7 and H8, may claim another number of them.
+    pub scatterers: Vec<Scatterer>,
+}
+
+impl Hrr {
+    /// Whether the mask announces a field.
+    pub fn has(&self, field: u32) -> bool {
+        self.mask & bit(field) != 0
+    }
+
+    /// The value of Hn that counts: absent fields count as zero.
+    fn counted(&self, field: u32) -> u64 {
+        if self.has(field) {
+            self.values[field as usize].into()
+        } else {
+            0
+        }
+    }
+
+    /// How many scatterers the fields claim.
+    pub fn claimed(&self) -> u64 {
+        if self.has(6) {
+            self.counted(6)
+        } else {
+            self.counted(7) * self.counted(8)
+        }
+    }
+
+    /// How many bytes H32.1 to H32.4 of each scatterer take.
+    pub fn scatterer_widths(&self) -> [usize; 4] {
+        let told = [self.values[25] as usize, self.values[26] as usize, INDEX_WIDTH, INDEX_WIDTH];
+        std::array::from_fn(|index| if self.has(32 + index as u32) { told[index] } else { 0 })
+    }
+
+    /// Where Hn stands in the body, or would stand.
+    pub fn place(&self, field: u32) -> usize {
+        hrr_place(self.mask, field)
+    }
+
+    /// The mask, the announced fields and the scatterers.
+    pub fn body(&self) -> Vec<u8> {
+        let mut body = self.mask.to_be_bytes()[..HRR_MASK].to_vec();
+        for field in (2..=31).filter(|field| self.has(*field)) {
+            push(&mut body, self.values[field as usize], hrr_width(field));
+        }
+        let widths = self.scatterer_widths();
+        for scatterer in &self.scatterers {
+            for (value, width) in scatterer[1..].iter().zip(widths) {
+                push(&mut body, *value, width);
+            }
+        }
+        body
+    }
+
+    /// The segment.
+    pub fn segment(&self) -> Segment {
+        Segment::new(HRR_TYPE, self.body())
+    }
+}
+
+/// Adds the low bytes of a value, highest first; one of more than four bytes has zeros in front.
 pub fn push(bytes: &mut Vec<u8>, value: u32, width: usize) {
+    bytes.resize(bytes.len() + width.saturating_sub(4), 0);
     bytes.extend(&value.to_be_bytes()[4 - width.min(4)..]);
 }

@@ -1,4 +1,5 @@
-//! The tables of document 01 that the generator spells packets and sheets by. They are its own: neither implementation is asked.
+//! The tables of document 01, and of document 003 for HRR segments, that the generator spells packets and sheets by. They are its own:
+//! neither implementation is asked.
 
 /// Widths of D2 to D31.
 pub const DWELL_WIDTHS: [usize; 30] = [2, 2, 1, 2, 4, 4, 4, 4, 4, 4, 4, 4, 2, 2, 4, 1, 1, 2, 2, 2, 2, 2, 4, 4, 2, 2, 2, 2, 2, 1];
@@ -46,11 +47,19 @@ pub const GROUPS: [&[u32]; 7] = [&[12, 13, 14], &[15, 16, 17], &[18, 19, 20], &[
 /// Fields of a target that may be announced by themselves: D32.1 and D32.6 to D32.15.
 pub const SINGLE: [u32; 11] = [32, 37, 38, 39, 40, 41, 42, 43, 44, 45, 46];
 
-/// The types whose body is kept as it is.
-pub const OPAQUE_TYPES: [u8; 9] = [3, 4, 7, 8, 9, 11, 12, 101, 102];
+/// The type of an HRR segment: with records of its own in version 3, kept as it is in version 1.
+pub const HRR_TYPE: u8 = 3;
 
-/// The types with records of their own.
+/// The types whose body is kept as it is in both versions.
+pub const OPAQUE_TYPES: [u8; 8] = [4, 7, 8, 9, 11, 12, 101, 102];
+
+/// The types with records of their own in both versions.
 pub const OWN_TYPES: [u8; 6] = [1, 2, 5, 6, 10, 13];
+
+/// Whether a type is known, in either version.
+pub fn is_known(segment_type: u8) -> bool {
+    segment_type == HRR_TYPE || OPAQUE_TYPES.contains(&segment_type) || OWN_TYPES.contains(&segment_type)
+}
 
 /// Values of J14 that are new in Edition 3.
 pub const NEW_MODES: [u8; 16] = [91, 92, 93, 96, 97, 101, 102, 103, 104, 111, 112, 113, 120, 121, 122, 123];
@@ -126,7 +135,7 @@ pub fn names_on_sheets() -> Vec<(u8, TextField)> {
 }
 
 /// Lengths of the bodies of records by kind; there is no kind 0.
-pub const RECORD_LENGTHS: [usize; 11] = [0, 32, 39, 87, 44, 24, 33, 5, 69, 14, 23];
+pub const RECORD_LENGTHS: [usize; 13] = [0, 32, 39, 87, 44, 24, 33, 5, 69, 14, 23, 66, 8];
 
 /// Where D2 stands in the body of a kind 3 record, with D3 behind it; so too in the body of a dwell, whose mask always announces both.
 pub const D2_PLACE: usize = 8;
@@ -171,6 +180,38 @@ pub fn width(field: u32) -> usize {
 /// How many bytes the announced fields take, of those from the first to the last.
 pub fn announced_width(mask: u64, first: u32, last: u32) -> usize {
     (first..=last).filter(|field| mask & bit(*field) != 0).map(width).sum()
+}
+
+/// The bytes of the mask H1. A mask is held in 64 bits, H1 in the highest of them: so it numbers its fields as a dwell's mask does, n for
+/// Hn and 31 + j for H32.j.
+pub const HRR_MASK: usize = 5;
+
+/// Widths of H2 to H31.
+pub const HRR_WIDTHS: [usize; 30] = [2, 2, 1, 2, 2, 2, 2, 1, 1, 2, 2, 4, 4, 4, 1, 1, 1, 2, 1, 2, 4, 1, 1, 1, 1, 1, 4, 1, 4, 4];
+
+/// The width of H32.3 and of H32.4.
+pub const INDEX_WIDTH: usize = 1;
+
+/// The fields that every HRR mask announces; the last is H32.1.
+pub const HRR_ALWAYS: [u32; 18] = [2, 3, 4, 8, 10, 11, 12, 13, 14, 16, 17, 18, 19, 23, 24, 25, 26, 32];
+
+/// Those of H2 to H31 that it may announce or not.
+pub const HRR_FREE: [u32; 13] = [5, 6, 7, 9, 15, 20, 21, 22, 27, 28, 29, 30, 31];
+
+/// H32.2 to H32.4, which it may announce or not.
+pub const SCATTERER_FREE: [u32; 3] = [33, 34, 35];
+
+/// The numbers of the bits of H1 that announce nothing.
+pub const HRR_SPARE: [u32; 6] = [36, 37, 38, 39, 40, 41];
+
+/// The width of Hn, for an n from 2 to 31.
+pub fn hrr_width(field: u32) -> usize {
+    HRR_WIDTHS.get((field as usize).wrapping_sub(2)).copied().unwrap_or(0)
+}
+
+/// Where Hn stands behind H1, of the fields that a mask announces: in a segment's body, or for a mask of all fields in that of a kind 11.
+pub fn hrr_place(mask: u64, field: u32) -> usize {
+    HRR_MASK + (2..field.min(32)).filter(|before| mask & bit(*before) != 0).map(hrr_width).sum::<usize>()
 }
 
 /// The body length of a type that has just one.

@@ -1,9 +1,9 @@
 //! Packets to which no row applies in the Edition 3 reading.
-use super::pairs;
 use super::random::Random;
 use super::spelling::{Dwell, Packet, Segment, Target};
 use super::tables::{bit, mask_of, width, TextField, TextSet, ABSOLUTE, ALWAYS, ANGLES, BODY_TEXT, DELTAS, GROUPS, HEADER_TEXT};
-use super::tables::{J14_PLACE, LAST_FIELD, LINE_ENDS, M6_PLACE, M7_PLACE, NEW_MODES, OPAQUE_TYPES, SINGLE};
+use super::tables::{HRR_TYPE, J14_PLACE, LAST_FIELD, LINE_ENDS, M6_PLACE, M7_PLACE, NEW_MODES, OPAQUE_TYPES, SINGLE};
+use super::{hrr, pairs};
 
 /// What the segments of a packet may hold.
 #[derive(Clone, Copy, Debug)]
@@ -48,7 +48,7 @@ pub fn packet(random: &mut Random) -> Packet {
 /// A packet of this style with so many segments. Its dwells have a run of pairs of D2 and D3.
 pub fn packet_in(random: &mut Random, style: Style, count: usize) -> Packet {
     // Type 2 stands five times: what a run of pairs does shows only in a packet of many dwells.
-    let only = if random.chance(40) { Some(random.pick([1, 2, 2, 2, 2, 2, 5, 6, 7, 10, 13])) } else { None };
+    let only = if random.chance(40) { Some(random.pick([1, 2, 2, 2, 2, 2, 3, 5, 6, 7, 10, 13])) } else { None };
     let mut segments: Vec<Segment> = (0..count)
         .map(|_| match only {
             Some(segment_type) => segment_of(random, style, segment_type),
@@ -140,20 +140,21 @@ pub fn body_length(random: &mut Random) -> usize {
 
 /// A segment of any known type.
 pub fn segment(random: &mut Random, style: Style) -> Segment {
-    let segment_type = random.pick([1, 2, 2, 2, 2, 2, 2, 5, 5, 6, 6, 7, 7, 10, 13]);
+    let segment_type = random.pick([1, 2, 2, 2, 2, 2, 2, 3, 3, 5, 5, 6, 6, 7, 7, 10, 13]);
     segment_of(random, style, segment_type)
 }
 
-/// A segment of a type; type 7 stands for any opaque one.
+/// A segment of a type; type 7 stands for any opaque one, and type 3 too where the style does not take it.
 pub fn segment_of(random: &mut Random, style: Style, segment_type: u8) -> Segment {
     match segment_type {
         1 => mission(random),
         2 => dwell(random, style).segment(),
+        HRR_TYPE if style.takes_new() => high_range(random, style),
         5 => job(random, style),
         6 => free_text(random),
         10 => Segment::new(10, random.bytes(14)),
         13 => Segment::new(13, random.bytes(23)),
-        _ => opaque(random, style),
+        _ => opaque(random),
     }
 }
 
@@ -198,14 +199,21 @@ pub fn free_text(random: &mut Random) -> Segment {
     with_text(random, 6, vec![0; length])
 }
 
-/// An opaque segment; type 3 only where the style takes it.
-pub fn opaque(random: &mut Random, style: Style) -> Segment {
-    let mut segment_type = random.pick(OPAQUE_TYPES);
-    if segment_type == 3 && !style.takes_new() {
-        segment_type = 4;
-    }
+/// A segment that is opaque in both versions.
+pub fn opaque(random: &mut Random) -> Segment {
     let length = body_length(random);
-    Segment::new(segment_type, random.bytes(length))
+    Segment::new(random.pick(OPAQUE_TYPES), random.bytes(length))
+}
+
+/// An HRR segment. In version 1 it is opaque: any bytes, or those of a segment that version 3 would read field by field, whole or cut.
+pub fn high_range(random: &mut Random, style: Style) -> Segment {
+    let mut segment = hrr::any(random).segment();
+    if style.version == 1 && random.chance(50) {
+        segment.body = opaque(random).body;
+    } else if style.version == 1 && random.chance(50) {
+        segment.body.truncate(random.below(segment.body.len()));
+    }
+    segment
 }
 
 /// A dwell with any mask, and none to a few dozen targets.

@@ -1,27 +1,12 @@
 //! The dwell: its mask, and where each announced field stands ("Dwell and mask").
 
+use super::mask::{bit, bits, mask_of, Layout};
 use super::positions::{LatitudeSteps, LongitudeSteps};
 use super::tables::{DWELL_FIELDS, DWELL_LEAST, MASK, SEGMENT_HEADER, TARGET_FIELDS};
 
 /// The number of D32.j.
 pub const fn d32(j: u32) -> u32 {
     31 + j
-}
-
-/// The mask bit of a field: bit 63 announces D2, and so on down.
-const fn bit(field: u32) -> u64 {
-    1 << (65 - field)
-}
-
-/// The mask bits of the fields `first` to `last`.
-const fn bits(first: u32, last: u32) -> u64 {
-    let mut set = 0;
-    let mut field = first;
-    while field <= last {
-        set |= bit(field);
-        field += 1;
-    }
-    set
 }
 
 /// Fields that every dwell announces.
@@ -85,44 +70,6 @@ pub fn new_in_mask(mask: u64) -> Option<u32> {
     lowest(missing(D28_TO_D30, mask)).or(lowest(D32_18 & mask))
 }
 
-/// Where each announced field stands among the announced fields, for D2 to D31
-/// or for one target's D32.1 to D32.18.
-pub struct Layout<const N: usize> {
-    first: u32,
-    widths: &'static [usize; N],
-    places: [Option<usize>; N],
-    pub length: usize,
-}
-
-impl<const N: usize> Layout<N> {
-    /// `first` is the number of the table's first field.
-    fn new(mask: u64, first: u32, widths: &'static [usize; N]) -> Layout<N> {
-        let mut places = [None; N];
-        let mut length = 0;
-        for ((place, width), field) in places.iter_mut().zip(widths).zip(first..) {
-            if mask & bit(field) != 0 {
-                *place = Some(length);
-                length += width;
-            }
-        }
-        Layout { first, widths, places, length }
-    }
-
-    /// Number, width and place of each field in order; no place where it is absent.
-    pub fn fields(&self) -> impl Iterator<Item = (u32, usize, Option<usize>)> + '_ {
-        let numbered = (self.first..).zip(self.widths).zip(&self.places);
-        numbered.map(|((field, width), place)| (field, *width, *place))
-    }
-
-    /// The value of an announced field, highest byte first.
-    pub fn value(&self, field: u32, bytes: &[u8]) -> Option<u32> {
-        let index = field.checked_sub(self.first)? as usize;
-        let place = (*self.places.get(index)?)?;
-        let value = bytes.get(place..place + self.widths[index])?.iter();
-        Some(value.fold(0, |sum, byte| sum << 8 | u32::from(*byte)))
-    }
-}
-
 impl Layout<30> {
     /// D2 to D31.
     pub fn of_dwell(mask: u64) -> Layout<30> {
@@ -137,10 +84,9 @@ impl Layout<18> {
     }
 }
 
-/// The mask at the front of a dwell's body or record.
-pub fn mask_of(body: &[u8]) -> u64 {
-    let mask = body.iter().take(MASK);
-    mask.fold(0, |sum, byte| sum << 8 | u64::from(*byte))
+/// The mask D1 at the front of a dwell's body or record.
+pub fn dwell_mask_of(body: &[u8]) -> u64 {
+    mask_of(body, MASK)
 }
 
 /// A dwell whose length is what its mask and D5 give.
@@ -160,7 +106,7 @@ impl<'a> Dwell<'a> {
         if body.len() < DWELL_LEAST - SEGMENT_HEADER {
             return None;
         }
-        let mask = mask_of(body);
+        let mask = dwell_mask_of(body);
         let layout = Layout::of_dwell(mask);
         let target_layout = Layout::of_target(mask);
         let (fields, targets) = body[MASK..].split_at_checked(layout.length)?;

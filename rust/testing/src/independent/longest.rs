@@ -1,7 +1,7 @@
 //! How long a sheet can get (request A2): the bound, and the packet whose sheet
 //! falls 542 bytes short of it.
 
-use super::dwell::Layout;
+use super::mask::Layout;
 use super::tables::{segment_type, HEADER, MASK, PACKET_LEAST, PACKET_MOST, SEGMENT_HEADER};
 
 /// The most targets that the packet may hold; with them it has 65,536 bytes.
@@ -14,6 +14,9 @@ const DELTA_TARGETS: u64 = 0xFFC0_03C0_6000_0000;
 /// The most bytes that the sheet of an accepted packet of this length can have:
 /// 33 + 45 × (n − 32) / 4, the whole product divided and rounded down. 0 for a
 /// length that no packet has.
+///
+/// It covers the HRR segment (request A4) as it is: kind 11 makes 67 bytes of at
+/// least 39, kind 12 makes 9 of at least 1.
 pub fn sheet_bound(packet_length: usize) -> usize {
     if !(PACKET_LEAST..=PACKET_MOST).contains(&packet_length) {
         return 0;

@@ -1,15 +1,18 @@
 //! A plain, field by field reader and writer of GMTI packets and their sheet.
 //!
 //! `tables` holds the names, widths, text sets and ranges of the document in its
-//! order, `dwell` the mask and the dwell's layout, `positions` the arithmetic of
-//! latitude and longitude, `packet` the reading and the segments, `read` the rows
-//! 1 to 16, `sheet` the records, `write` the rows 17 to 20, `editions` what tells
+//! order, `mask` what announces a field and where it then stands, `dwell` and
+//! `hrr` the segments that have a mask, `positions` the arithmetic of latitude and
+//! longitude, `packet` the reading and the segments, `read` the rows 1 to 16, 21
+//! and 22, `sheet` the records, `write` the rows 17 to 20, `editions` what tells
 //! the two readings of a version 3 packet apart, and `longest` how long a sheet
 //! can get.
 
 mod dwell;
 mod editions;
+mod hrr;
 mod longest;
+mod mask;
 mod packet;
 mod positions;
 mod read;

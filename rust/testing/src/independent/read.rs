@@ -1,9 +1,11 @@
-//! The reading of a packet, rows 1 to 16 ("Where each number is given").
+//! The reading of a packet, rows 1 to 16 ("Where each number is given"), and rows
+//! 21 and 22 directly after row 9 (request A4).
 //!
 //! A refusal leaves the sheet unchanged, so all rows are checked over the whole
 //! packet before the first byte of the sheet is filled.
 
-use super::dwell::{d32, mask_at_fault, mask_of, new_in_mask, Dwell};
+use super::dwell::{d32, dwell_mask_of, mask_at_fault, new_in_mask, Dwell};
+use super::hrr::{hrr_mask_of, is_mask_at_fault, Hrr};
 use super::packet::{fault, segments, split_segment, Fault, Reading, Segment};
 use super::sheet::{fill, piece_count};
 use super::tables::*;
@@ -26,7 +28,7 @@ pub fn read(edition: u32, packet: &[u8], sheet: &mut [u8]) -> Answer {
     accepted
 }
 
-/// Rows 1 to 15. The answer's length is the length of the sheet.
+/// Rows 1 to 15, 21 and 22. The answer's length is the length of the sheet.
 fn check(edition: u32, packet: &[u8]) -> Result<(Reading, Answer), Answer> {
     let reading = check_header(edition, packet).map_err(|fault| fault.in_segment(0))?;
     let mut answer = Answer::accepted(0, 0, 0, 1 + HEADER_RECORD as u32);
@@ -43,7 +45,7 @@ fn check(edition: u32, packet: &[u8]) -> Result<(Reading, Answer), Answer> {
 }
 
 /// "The number of different pairs of D2 and D3 in the packet" (request A1), for
-/// a packet that has passed rows 1 to 15.
+/// a packet that has passed rows 1 to 15, 21 and 22.
 ///
 /// Not the number of dwell segments: "Targets detected within a dwell may be
 /// split among multiple Dwell Segments" (document 003, 2.4.32).
@@ -102,7 +104,7 @@ fn check_segment(reading: Reading, segment: &Segment, answer: &mut Answer) -> Re
     if reading.is_older && segment.segment_type == segment_type::HRR {
         return fault(15, 0);
     }
-    check_size(segment)?;
+    check_size(reading, segment)?;
     check_text(segment)?;
     let mut length = 0;
     match segment.segment_type {
@@ -114,6 +116,10 @@ fn check_segment(reading: Reading, segment: &Segment, answer: &mut Answer) -> Re
             let dwell = check_dwell(reading, body)?;
             answer.targets += dwell.target_count;
             length += 1 + DWELL_RECORD + dwell.target_count as usize * (1 + TARGET_RECORD);
+        }
+        segment_type::HRR if !reading.is_version_1 => {
+            let hrr = check_hrr(body)?;
+            length += 1 + HRR_RECORD + hrr.set.count as usize * (1 + SCATTERER_RECORD);
         }
         segment_type::JOB => {
             check_job(reading, body)?;
@@ -132,7 +138,7 @@ fn check_segment(reading: Reading, segment: &Segment, answer: &mut Answer) -> Re
 }
 
 /// Row 9. S2 counts the 5 header bytes, so it is held as the body's length.
-fn check_size(segment: &Segment) -> Result<(), Fault> {
+fn check_size(reading: Reading, segment: &Segment) -> Result<(), Fault> {
     let length = segment.body.len();
     let is_right = match segment.segment_type {
         segment_type::MISSION => length == MISSION_BODY,
@@ -141,6 +147,7 @@ fn check_size(segment: &Segment) -> Result<(), Fault> {
         segment_type::LOCATION => length == LOCATION_BODY,
         segment_type::FREE_TEXT => length >= FREE_TEXT_FIXED,
         segment_type::DWELL => length >= MASK,
+        segment_type::HRR => reading.is_version_1 || length >= HRR_MASK,
         _ => true,
     };
     if is_right {
@@ -184,9 +191,21 @@ fn check_job(reading: Reading, body: &[u8]) -> Result<(), Fault> {
     Ok(())
 }
 
+/// Rows 21 and 22 of an HRR segment in a version 3 packet. No row between 9 and 21
+/// is about type 3.
+fn check_hrr(body: &[u8]) -> Result<Hrr<'_>, Fault> {
+    if is_mask_at_fault(hrr_mask_of(body)) {
+        return fault(21, 0);
+    }
+    match Hrr::new(body) {
+        Some(hrr) => Ok(hrr),
+        None => fault(22, 0),
+    }
+}
+
 /// Rows 11 to 14 of a dwell.
 fn check_dwell(reading: Reading, body: &[u8]) -> Result<Dwell<'_>, Fault> {
-    let mask = mask_of(body);
+    let mask = dwell_mask_of(body);
     if let Some(field) = mask_at_fault(reading.is_version_1, mask) {
         return fault(11, field);
     }

@@ -1,7 +1,9 @@
 //! The records of a sheet: filling them from a checked packet, and walking them
 //! ("The sheet").
 
-use super::dwell::{Dwell, Layout};
+use super::dwell::Dwell;
+use super::hrr::Hrr;
+use super::mask::Layout;
 use super::packet::{segments, Reading, Segment};
 use super::tables::*;
 
@@ -34,7 +36,7 @@ pub fn records(sheet: &[u8]) -> impl Iterator<Item = Record<'_>> {
     })
 }
 
-/// Fills the sheet of a packet that has passed rows 1 to 16.
+/// Fills the sheet of a packet that has passed every row of the reading.
 pub fn fill(reading: Reading, packet: &[u8], sheet: &mut [u8]) {
     let mut filler = Filler { sheet, length: 0 };
     filler.put(&[kind::HEADER]);
@@ -98,6 +100,7 @@ fn fill_segment(reading: Reading, segment: &Segment, filler: &mut Filler) {
             filler.put(body);
         }
         segment_type::DWELL => fill_dwell(reading, body, filler),
+        segment_type::HRR if !reading.is_version_1 => fill_hrr(body, filler),
         segment_type::JOB => fill_job(reading, body, filler),
         segment_type::FREE_TEXT => {
             let (fixed, f3) = body.split_at(FREE_TEXT_FIXED);
@@ -140,6 +143,27 @@ fn fill_dwell(reading: Reading, body: &[u8], filler: &mut Filler) {
         let longitude = dwell.longitude(target).microdegrees();
         filler.put(&latitude.to_be_bytes());
         filler.put(&longitude.to_be_bytes());
+    }
+}
+
+/// An HRR segment's record and those of its scatterers: "2 bytes each, a one-byte
+/// value behind a zero byte", an absent one all zero.
+fn fill_hrr(body: &[u8], filler: &mut Filler) {
+    let Some(hrr) = Hrr::new(body) else {
+        return;
+    };
+    filler.put(&[kind::HRR]);
+    filler.put(hrr.mask);
+    filler.put_fields(&hrr.layout, hrr.fields, 0);
+    for scatterer in hrr.scatterers() {
+        filler.put(&[kind::SCATTERER]);
+        let mut rest = scatterer;
+        for width in hrr.set.widths {
+            let (value, after) = rest.split_at(width);
+            filler.put_zeros(SCATTERER_VALUE - width);
+            filler.put(value);
+            rest = after;
+        }
     }
 }
 

@@ -117,6 +117,32 @@ pub const DWELL_FIELDS: [usize; 30] = [
 /// Widths of D32.1 to D32.18.
 pub const TARGET_FIELDS: [usize; 18] = [2, 4, 4, 2, 2, 2, 2, 2, 1, 1, 1, 2, 2, 1, 2, 1, 4, 1];
 
+/// Widths of H2 to H31, from the column "Bytes" of document 003's table 2-5.
+///
+/// Rows that the scan has spoilt: H9 runs its columns together, "1 I8" among them.
+/// H19 is printed twice, with 2 both times. H23 is printed twice, with 4 and with
+/// 1: its form is E8, "the size of the enumeration table in number of bits"
+/// (annex B, 6.8), and its values end at 255, so it is 1.
+pub const HRR_FIELDS: [usize; 30] = [
+    2, 2, 1, 2, // H2 to H5
+    2, 2, 2, // H6 to H8
+    1, 1, // H9, H10
+    2, 2, 4, 4, 4, // H11 to H15
+    1, 1, 1, // H16 to H18
+    2, 1, 2, 4, // H19 to H22
+    1, 1, 1, 1, // H23 to H26
+    1, 4, 1, // H27 to H29
+    4, 4, // H30, H31
+];
+
+/// The width of H32.3 and of H32.4. The column "Bytes" of table 2-5.1 says 1, while
+/// the columns beside it say I16 and 0 to 65535. Request A4 asks for the table's
+/// widths, and the column of widths is "Bytes".
+pub const INDEX_BYTES: usize = 1;
+
+/// The mask H1, 5 bytes in front of H2.
+pub const HRR_MASK: usize = 5;
+
 /// The mask D1, 8 bytes in front of D2.
 pub const MASK: usize = 8;
 
@@ -136,11 +162,13 @@ pub mod segment_type {
 
 /// The types listed under "Packet and segments"; no other type is known.
 pub fn is_known_type(segment_type: u8) -> bool {
-    matches!(segment_type, 1 | 2 | 5 | 6 | 10 | 13) || is_opaque_type(segment_type)
+    matches!(segment_type, 1 | 2 | 3 | 5 | 6 | 10 | 13) || is_opaque_type(segment_type)
 }
 
-pub fn is_opaque_type(segment_type: u8) -> bool {
-    matches!(segment_type, 3 | 4 | 7 | 8 | 9 | 11 | 12 | 101 | 102)
+/// The types that are opaque in either version. Type 3 is so in version 1 alone
+/// (request A4).
+fn is_opaque_type(segment_type: u8) -> bool {
+    matches!(segment_type, 4 | 7 | 8 | 9 | 11 | 12 | 101 | 102)
 }
 
 /// Widths of the bodies that have one length, and of the parts of free text.
@@ -156,7 +184,7 @@ pub fn is_new_radar_mode(mode: u8) -> bool {
     matches!(mode, 91..=93 | 96 | 97 | 101..=104 | 111..=113 | 120..=123)
 }
 
-/// The kinds of the sheet's records ("The sheet").
+/// The kinds of the sheet's records ("The sheet", request A4).
 pub mod kind {
     pub const HEADER: u8 = 1;
     pub const MISSION: u8 = 2;
@@ -168,6 +196,8 @@ pub mod kind {
     pub const JOB: u8 = 8;
     pub const TEST: u8 = 9;
     pub const LOCATION: u8 = 10;
+    pub const HRR: u8 = 11;
+    pub const SCATTERER: u8 = 12;
 }
 
 /// Lengths of the records' bodies, without the byte of kind.
@@ -181,6 +211,11 @@ pub const OPAQUE_RECORD: usize = 1 + 4;
 pub const JOB_RECORD: usize = JOB_BODY + 1;
 pub const TEST_RECORD: usize = TEST_BODY;
 pub const LOCATION_RECORD: usize = LOCATION_BODY;
+pub const HRR_RECORD: usize = HRR_MASK + sum(&HRR_FIELDS);
+pub const SCATTERER_RECORD: usize = 4 * SCATTERER_VALUE;
+
+/// The bytes that each of a scatterer's four values has on the sheet.
+pub const SCATTERER_VALUE: usize = 2;
 
 /// The most bytes that one piece carries.
 pub const PIECE_BYTES: usize = 32;
@@ -198,6 +233,8 @@ pub fn record_length(kind: u8) -> Option<usize> {
         kind::JOB => Some(JOB_RECORD),
         kind::TEST => Some(TEST_RECORD),
         kind::LOCATION => Some(LOCATION_RECORD),
+        kind::HRR => Some(HRR_RECORD),
+        kind::SCATTERER => Some(SCATTERER_RECORD),
         _ => None,
     }
 }
@@ -215,6 +252,7 @@ const _: () = assert!(HEADER_RECORD == 32 && PACKET_LEAST == HEADER_RECORD);
 const _: () = assert!(MISSION_RECORD == 39 && JOB_BODY == 68 && JOB_RECORD == 69);
 const _: () = assert!(DWELL_RECORD == 87 && TARGET_RECORD == 44);
 const _: () = assert!(TEXT_RECORD == 24 && PIECE_RECORD == 33 && OPAQUE_RECORD == 5);
+const _: () = assert!(SCATTERER_RECORD == 8);
 
 /// The sum of the widths of a table.
 const fn total(fields: &[Field]) -> usize {

@@ -1,6 +1,8 @@
 //! The document's trials, one packet or sheet for each row, round trips, the
 //! dwell counts of request A1, the text sets of request A3, and the agreement of
-//! the two readings of version 3 packets.
+//! the two readings of version 3 packets. Those of request A4 are in `hrr`.
+
+mod hrr;
 
 use super::positions::{LatitudeSteps, LongitudeSteps};
 use super::tables::{is_new_radar_mode, DWELL_FIELDS, TARGET_FIELDS};
@@ -132,17 +134,20 @@ fn printed(packet: &[u8]) -> String {
     lines
 }
 
-/// One segment of every known type.
+/// One segment of every known type. The HRR segment is whole, so that version 3
+/// accepts it too; its 6 scatterers have a magnitude and both indices.
 fn all_types(with_hrr: bool) -> Vec<Vec<u8>> {
     let mut all = vec![mission(12, 31), job(90), free_text(b"hello\r\n\x0C~ ")];
     let full = 0xFF3F_FFFF_9FFE_0000;
     all.push(dwell(full, &[(27, 0x1234)], &[&[(33, 1), (34, 2)][..]; 3]));
     all.push(segment(10, &[0xFE; 14]));
     all.push(segment(13, &[0x80; 23]));
-    for opaque in [3, 4, 7, 8, 9, 11, 12, 101, 102] {
-        if opaque != 3 || with_hrr {
-            all.push(segment(opaque, &vec![opaque; 7 * usize::from(opaque)]));
-        }
+    if with_hrr {
+        let mask = hrr::LEAST | bit(7) | bit(34) | bit(35);
+        all.push(hrr::segment_of(mask, &[(7, 3), (8, 2)], &[0xB7; 6 * 3]));
+    }
+    for opaque in [4, 7, 8, 9, 11, 12, 101, 102] {
+        all.push(segment(opaque, &vec![opaque; 7 * usize::from(opaque)]));
     }
     all
 }
@@ -258,9 +263,8 @@ fn rows_of_a_segment() {
         assert_read(3, &after(&bytes), (8, 2, 0));
     }
     assert_read(1, &after(&segment(3, &[])), (15, 2, 0));
-    assert!(sheet_of(3, &after(&segment(3, &[]))).0.is_accepted());
     let wrong = [(1, 38), (1, 40), (5, 67), (5, 69), (10, 13), (10, 15)];
-    for (segment_type, length) in wrong.into_iter().chain([(13, 22), (13, 24), (6, 19), (2, 7)]) {
+    for (segment_type, length) in wrong.into_iter().chain([(13, 22), (13, 24), (6, 19), (2, 7), (3, 0), (3, 4)]) {
         let bytes = segment(segment_type, &vec![0x80; length]);
         assert_read(3, &after(&bytes), (9, 2, 0));
     }
@@ -356,7 +360,7 @@ fn rows_17_and_18() {
     // Empty, unknown kinds, cut, kind 1 twice, kind 1 not first. The last also
     // has a fault of row 18, which is tried later.
     let cut = &header[..32];
-    for sheet in [&[][..], &[0], cut, &with(&[&[11]]), &with(&[&header]), first] {
+    for sheet in [&[][..], &[0], cut, &with(&[&[13]]), &with(&[&header]), first] {
         assert_write(sheet, 100, 17);
     }
     let mut counts = [text.clone(), text.clone(), text.clone()];
@@ -543,8 +547,10 @@ fn dwells_among_other_segments() {
     assert_dwells(&[all_types(false), all_types(false)].concat(), 1);
     assert_dwells(&[all_types(false), parts.to_vec(), all_types(false)].concat(), 2);
     // Nor has an HRR segment: its revisit and dwell index are H2 and H3 (document
-    // 003, 2.5), and it is opaque.
-    let hrr = packet("30", &[least_dwell(7, 9), segment(3, &least_dwell(1, 1)[5..])]);
+    // 003, 2.5).
+    let hrr = packet("30", &[least_dwell(7, 9), hrr::segment_of(hrr::LEAST, &[(2, 1), (3, 1)], &[])]);
+    assert_eq!(assert_round_trip(&hrr).0.dwells, 1);
+    let hrr = packet("10", &[least_dwell(7, 9), segment(3, &least_dwell(1, 1)[5..])]);
     assert_eq!(assert_round_trip(&hrr).0.dwells, 1);
     // The program prints a split dwell as one, with both its segments and targets.
     let split = dwell(ABSOLUTE, &pair, &[&[]]);
@@ -770,8 +776,9 @@ fn readings_agree() {
     assert_readings_agree(&packet("30", &[]));
     assert_readings_agree(&packet("39", &all_types(false)));
     let new_mask = dwell(LEAST | bit(29) | bit(49), &[], &[]);
-    for new in [segment(3, &[1]), new_mask, dwell(LEAST | bit(49), &[], &[])] {
-        assert_readings_agree(&packet("30", &[job(1), new.clone(), segment(3, &[]), job(91)]));
+    let hrr = hrr::segment_of(hrr::LEAST, &[], &[]);
+    for new in [hrr.clone(), new_mask, dwell(LEAST | bit(49), &[], &[])] {
+        assert_readings_agree(&packet("30", &[job(1), new.clone(), hrr.clone(), job(91)]));
         assert_eq!(first_new(&packet("10", &[new])), None);
     }
     let mut new_modes = 0;

@@ -2,7 +2,9 @@
 //!
 //! Each row is tried over the whole sheet before the next one.
 
-use super::dwell::{mask_of, Layout};
+use super::dwell::dwell_mask_of;
+use super::hrr::{hrr_mask_of, ScattererSet};
+use super::mask::Layout;
 use super::read::read;
 use super::sheet::{records, split_record, Record};
 use super::tables::*;
@@ -50,15 +52,16 @@ fn has_whole_records(sheet: &[u8]) -> bool {
     !is_first
 }
 
-/// Row 18: each kind 3, 5 or 7 is followed directly by exactly the records it
-/// calls for, and no kind 4 or 6 stands anywhere else.
+/// Row 18: each kind 3, 5, 7 or 11 is followed directly by exactly the records it
+/// calls for, and no kind 4, 6 or 12 stands anywhere else.
 fn has_records_in_place(sheet: &[u8]) -> bool {
     let mut rest = sheet;
     while let Some((record, after)) = split_record(rest) {
         let follows = match record.kind {
             kind::DWELL => skip_targets(target_count(record.body), after),
             kind::TEXT | kind::OPAQUE => skip_pieces(length_at_end(record.body), after),
-            kind::TARGET | kind::PIECE => None,
+            kind::HRR => skip_scatterers(ScattererSet::of_record(record.body).count, after),
+            kind::TARGET | kind::PIECE | kind::SCATTERER => None,
             _ => Some(after),
         };
         let Some(follows) = follows else {
@@ -79,6 +82,15 @@ fn skip_targets(count: usize, mut rest: &[u8]) -> Option<&[u8]> {
         rest = after;
     }
     Some(rest)
+}
+
+/// What follows `count` kind 12 records. They are of one length, so a count that
+/// the sheet has no bytes for is told before they are walked.
+fn skip_scatterers(count: u64, rest: &[u8]) -> Option<&[u8]> {
+    let length = count.checked_mul(1 + SCATTERER_RECORD as u64)?;
+    let (whole, after) = rest.split_at_checked(usize::try_from(length).ok()?)?;
+    let mut each = whole.chunks_exact(1 + SCATTERER_RECORD);
+    each.all(|record| record[0] == kind::SCATTERER).then_some(after)
 }
 
 /// What follows the kind 6 records that carry `length` bytes, all full but the
@@ -111,22 +123,25 @@ fn length_at_end(body: &[u8]) -> usize {
 /// The packet's bytes, for a sheet that has passed rows 17 and 18; nothing
 /// where they are above 65,536.
 fn spell(sheet: &[u8]) -> Option<Vec<u8>> {
-    let mut speller = Speller { packet: Vec::new(), target_layout: Layout::of_target(0) };
+    let mut speller = Speller { packet: Vec::new(), target_layout: Layout::of_target(0), scatterer_widths: [0; 4] };
     for record in records(sheet) {
         speller.spell_record(&record)?;
     }
     Some(speller.packet)
 }
 
-/// The bytes spelt so far, and the layout of the targets of the last dwell.
+/// The bytes spelt so far, the layout of the targets of the last dwell, and the
+/// widths of the scatterers of the last HRR segment.
 struct Speller {
     packet: Vec<u8>,
     target_layout: Layout<18>,
+    scatterer_widths: [usize; 4],
 }
 
 impl Speller {
     /// Adds one record's bytes. The first record of a segment gives its type
-    /// and S2 as well; targets and pieces add to the segment they follow.
+    /// and S2 as well; targets, pieces and scatterers add to the segment they
+    /// follow.
     fn spell_record(&mut self, record: &Record) -> Option<()> {
         let body = record.body;
         match record.kind {
@@ -143,13 +158,15 @@ impl Speller {
             kind::OPAQUE => self.start_segment(body[0], length_at_end(body))?,
             kind::JOB => self.put_whole(segment_type::JOB, &body[..JOB_BODY])?,
             kind::TEST => self.put_whole(segment_type::TEST, body)?,
+            kind::HRR => self.put_hrr(body)?,
+            kind::SCATTERER => self.put_scatterer(body),
             _ => self.put_whole(segment_type::LOCATION, body)?,
         }
         Some(())
     }
 
     fn put_dwell(&mut self, body: &[u8]) -> Option<()> {
-        let mask = mask_of(body);
+        let mask = dwell_mask_of(body);
         let layout = Layout::of_dwell(mask);
         self.target_layout = Layout::of_target(mask);
         let targets = target_count(body) * self.target_layout.length;
@@ -157,6 +174,24 @@ impl Speller {
         self.put(&body[..MASK]);
         put_announced(&mut self.packet, &layout, &body[MASK..]);
         Some(())
+    }
+
+    fn put_hrr(&mut self, body: &[u8]) -> Option<()> {
+        let layout = Layout::of_hrr(hrr_mask_of(body));
+        let set = ScattererSet::of_record(body);
+        let length = usize::try_from(set.length()).ok()?;
+        self.start_segment(segment_type::HRR, length.checked_add(HRR_MASK + layout.length)?)?;
+        self.put(&body[..HRR_MASK]);
+        put_announced(&mut self.packet, &layout, &body[HRR_MASK..]);
+        self.scatterer_widths = set.widths;
+        Some(())
+    }
+
+    /// Of each value the last bytes, as many as it is wide.
+    fn put_scatterer(&mut self, body: &[u8]) {
+        for (value, width) in body.chunks_exact(SCATTERER_VALUE).zip(self.scatterer_widths) {
+            self.packet.extend_from_slice(&value[SCATTERER_VALUE - width..]);
+        }
     }
 
     /// A segment whose body is all in one record.

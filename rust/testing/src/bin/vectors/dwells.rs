@@ -1,5 +1,5 @@
 //! Rows 11 to 14: masks, sizes and values of dwells. Then how many dwells there are.
-use crate::parts::{dwell, dwell_of, mask, masked, mission, packet, segment, text, Part, ABSOLUTE, ALL_DELTAS, DELTAS, LEAST};
+use crate::parts::{dwell, dwell_of, hrr, mask, masked, mission, packet, segment, text, Part, ABSOLUTE, ALL_DELTAS, DELTAS, LEAST};
 use crate::trials::{Lend, Trials};
 use std::slice::from_ref;
 use testing::generator::tables::bit;
@@ -252,12 +252,14 @@ pub fn pairs(t: &mut Trials) {
 }
 
 /// One dwell, and a segment of another type whose bytes would read as a dwell with another pair. That of type 10 has room for the first
-/// 14 of them: T2 and T3, its own revisit and dwell, are then zero.
-pub fn beside_others() -> Vec<Counted> {
+/// 14 of them: T2 and T3, its own revisit and dwell, are then zero. That of type 3 is in version 3 one whose own revisit and dwell, H2 and
+/// H3, are the other pair.
+pub fn beside_others(version: u8) -> Vec<Counted> {
     let [one, other] = [(7, 9), (1, 1)].map(dwell_of);
     let beside = |part: Part| vec![one.clone(), part];
+    let (type_3, length) = if version == 3 { (hrr("").with(2, 1).with(3, 1), 188) } else { (segment(3, &other.body()), 195) };
     vec![
-        Counted::new("dwell beside type 3", beside(segment(3, &other.body())), "2 1 0", 195),
+        Counted::new("dwell beside type 3", beside(type_3), "2 1 0", length),
         Counted::new("dwell beside type 4", beside(segment(4, &other.body())), "2 1 0", 195),
         Counted::new("dwell beside type 10", beside(segment(10, &other.body()[..14])), "2 1 0", 136),
     ]
@@ -265,11 +267,11 @@ pub fn beside_others() -> Vec<Counted> {
 
 /// Only segments of type 2 are dwells. Type 3 is new in Edition 3.
 pub fn other_types(t: &mut Trials) {
-    for counted in beside_others() {
+    for (counted, older) in beside_others(3).iter().zip(beside_others(1)) {
         let (name, want) = (counted.name, counted.read());
         let is_new = counted.parts[1].segment_type == 3;
         t.read(&format!("{name} reading 1"), 1, packet(3, &counted.parts), if is_new { "no 15 2 0" } else { &want });
         t.read(&format!("{name} reading 3"), 3, packet(3, &counted.parts), &want);
-        t.both(&format!("{name} version 1"), &packet(1, &counted.parts), &want);
+        t.both(&format!("{name} version 1"), &packet(1, &older.parts), &older.read());
     }
 }

@@ -1,7 +1,7 @@
 //! Packets on which demand 3 is run.
 use crate::longest;
 use crate::newer::NEW;
-use crate::parts::{by_deltas, dwell, dwell_of, every_kind, header, job, location, mission, packet, raw, segment, test, text};
+use crate::parts::{by_deltas, dwell, dwell_of, every_kind, header, hrr, job, location, mission, packet, raw, segment, test, text};
 use crate::parts::{trial, trial_dwell, Part, ABSOLUTE, ALL_DELTAS};
 use crate::trials::is_name;
 use crate::verdict::{verdict, INDEPENDENT};
@@ -48,8 +48,8 @@ pub fn list() -> Editions {
 }
 
 fn masks(e: &mut Editions) {
-    e.add("type 3", packet(3, &[segment(3, b"abc")]), "new no 15 1 0");
-    e.add("type 3 empty", packet(3, &[segment(3, &[])]), "new no 15 1 0");
+    e.add("type 3", packet(3, &[hrr("H6").scatterers(3)]), "new no 15 1 0");
+    e.add("type 3 without scatterers", packet(3, &[hrr("")]), "new no 15 1 0");
     for (words, field) in [("D28", 29), ("D29", 28), ("D30", 28), ("D28 D29", 30), ("D28 D30", 29), ("D29 D30", 28)] {
         e.add(&format!("angles {words}"), packet(3, &[dwell(words)]), &format!("new no 15 1 {field}"));
     }
@@ -75,7 +75,7 @@ fn modes(e: &mut Editions) {
 
 fn later(e: &mut Editions) {
     let behind = |last: Part| packet(3, &[mission(), trial_dwell(), job(), text(b"abc"), last]);
-    e.add("later type 3", behind(segment(3, &[])), "new no 15 5 0");
+    e.add("later type 3", behind(hrr("")), "new no 15 5 0");
     e.add("later angles", behind(dwell("D28")), "new no 15 5 29");
     e.add("later D32.18", behind(dwell("D32.18")), "new no 15 5 49");
     e.add("later mode", behind(job().with(14, 123)), "new no 15 5 14");
@@ -88,7 +88,7 @@ fn two(e: &mut Editions) {
     e.add("angles and D32.18", packet(3, &[dwell("D28 D32.18")]), "new no 15 1 29");
     e.add("angles D29 D30 and D32.18", packet(3, &[dwell("D29 D30 D32.18")]), "new no 15 1 28");
     e.add("all angles and D32.18", packet(3, &[dwell("D28-D30 D32.18")]), "new no 15 1 49");
-    let type_3 = || segment(3, &[]);
+    let type_3 = || hrr("");
     let mode = |mode: i64| job().with(14, mode);
     for (name, parts, want) in [
         ("D32.18 then type 3", vec![dwell("D32.18"), type_3()], "new no 15 1 49"),
@@ -141,6 +141,8 @@ fn version_1(e: &mut Editions) {
     for (name, parts, want) in [
         ("header", vec![], "alike ok 0 0 0 33"),
         ("type 3", vec![segment(3, b"abc")], "alike ok 1 0 0 73"),
+        ("HRR segment", vec![hrr("H6").scatterers(3)], "alike ok 1 0 0 107"),
+        ("HRR segment without H24", vec![hrr("").without("H24")], "alike ok 1 0 0 107"),
         ("modes", modes.to_vec(), "alike ok 2 0 0 173"),
         ("dwell", vec![dwell("D28-D30").with(27, 0xABCD)], "alike ok 1 1 0 121"),
         ("angles", vec![dwell("D28")], "no 11 1 29"),
@@ -152,7 +154,7 @@ fn version_1(e: &mut Editions) {
 
 /// Refused by the Edition 3 reading, with or without something new.
 fn refused(e: &mut Editions) {
-    let type_3 = || segment(3, &[]);
+    let type_3 = || hrr("");
     let mode = || job().with(14, 91);
     e.add("refused nothing", vec![], "no 2 0 0");
     e.add("refused P1 20", header(3).with(1, b"20").packet(&[]), "no 3 0 0");
@@ -161,13 +163,17 @@ fn refused(e: &mut Editions) {
     for (name, parts, want) in [
         ("left 3", vec![type_3(), raw(&[3, 0, 0])], "no 6 2 0"),
         ("type 77", vec![type_3(), segment(77, &[])], "no 7 2 0"),
-        ("S2 of type 3", vec![type_3().claiming(6)], "no 8 1 0"),
+        ("S2 of type 3", vec![segment(3, &[]).claiming(6)], "no 8 1 0"),
+        ("size of type 3", vec![segment(3, b"abc")], "no 9 1 0"),
         ("size of a job", vec![mode().sized(74)], "no 9 1 0"),
         ("J3", vec![mode().with(3, b"\0ADAR9")], "no 10 1 3"),
         ("mask", vec![dwell("D28 D32.2 D32.18")], "no 11 1 34"),
         ("size of a dwell", vec![dwell("D28").sized(49)], "no 12 1 0"),
         ("D4", vec![dwell("D32.18").with(4, 2)], "no 13 1 4"),
         ("latitude", vec![mode(), by_deltas(1, 0x7FFF_FFFF, 2)], "no 14 2 35"),
+        ("HRR mask", vec![mode(), hrr("").without("H24")], "no 21 2 0"),
+        ("H25", vec![type_3(), hrr("").with(25, 0)], "no 22 2 0"),
+        ("size of an HRR segment", vec![hrr("H6").scatterers(3).sized(43)], "no 22 1 0"),
     ] {
         e.add(&format!("refused {name}"), packet(3, &parts), want);
     }

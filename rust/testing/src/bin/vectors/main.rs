@@ -8,6 +8,8 @@ mod dwells;
 mod editions;
 mod files;
 mod heads;
+mod hrr;
+mod hrr_sheets;
 mod lines;
 mod longest;
 mod newer;
@@ -30,7 +32,7 @@ use trials::Trials;
 use verdict::{Implementation, BY_HAND, INDEPENDENT, VERIFIED};
 
 /// The readings, then the writings. Lists that came later stand behind these: how much is lent to a refusal goes by its place.
-const LISTS: [fn(&mut Trials); 65] = [
+const LISTS: [fn(&mut Trials); 84] = [
     heads::call,
     heads::versions,
     heads::packet_sizes,
@@ -96,6 +98,25 @@ const LISTS: [fn(&mut Trials); 65] = [
     texts::order,
     texts::header_order,
     texts::sheets,
+    hrr::printed,
+    hrr::masks,
+    hrr::widths,
+    hrr::counts,
+    hrr::products,
+    hrr::sizes,
+    hrr::versions,
+    hrr::order,
+    hrr::lent,
+    hrr_sheets::written,
+    hrr_sheets::row_17,
+    hrr_sheets::row_18,
+    hrr_sheets::row_18_places,
+    hrr_sheets::row_18_absent,
+    hrr_sheets::row_19,
+    hrr_sheets::row_19_scatterers,
+    hrr_sheets::row_19_absent,
+    hrr_sheets::row_19_versions,
+    hrr_sheets::order,
 ];
 
 fn main() -> ExitCode {
@@ -156,15 +177,16 @@ fn untried(trials: &Trials) -> Vec<String> {
     let named = |fault: &Fault| !matches!(fault.row(), 5 | 10 | 11 | 13 | 14 | 15) || tally.fields_of(fault.row()).contains(&fault.field());
     let mut untried: Vec<String> =
         Fault::all().iter().filter(|fault| !named(fault)).map(|fault| format!("{fault:?} is not tried")).collect();
-    // Row 15 is the Edition 1 reading's alone; there are no rows of the writer before 17.
+    // Row 15 is the Edition 1 reading's alone, rows 21 and 22 are the Edition 3 reading's; there are no rows of the writer before 17.
     let is_tried = |row: &usize| match row {
         1 => tally.others[1] > 0,
         15 => tally.older[15] > 0,
         17..=20 => tally.writer[*row] > 0,
+        21 | 22 => tally.newer[*row] > 0,
         _ => tally.older[*row] > 0 && tally.newer[*row] > 0,
     };
-    untried.extend((0..=20).filter(|row| !is_tried(row)).map(|row| format!("row {row} is not tried")));
-    untried.extend((1..=10).filter(|kind| tally.records[*kind] == 0).map(|kind| format!("kind {kind} is not tried")));
+    untried.extend((0..=22).filter(|row| !is_tried(row)).map(|row| format!("row {row} is not tried")));
+    untried.extend((1..=12).filter(|kind| tally.records[*kind] == 0).map(|kind| format!("kind {kind} is not tried")));
     let pairs = LIKENESSES.iter().zip(tally.pairs).filter(|(_, count)| *count == 0);
     untried.extend(pairs.map(|((name, _), _)| format!("a pair of D2 and D3 that is {name} is not tried")));
     untried

@@ -1,6 +1,6 @@
 //! Segments and packets of the vectors. Every field has a usual value that differs from its neighbours', so that a shifted field shows.
-use testing::generator::spelling::{patch_size, Dwell, Target};
-use testing::generator::tables::{bit, width};
+use testing::generator::spelling::{patch_size, Dwell, Hrr, Scatterer, Target};
+use testing::generator::tables::{bit, hrr_width, mask_of, width, HRR_ALWAYS, HRR_MASK, HRR_TYPE};
 
 /// The fields that every dwell announces, and the two position pairs.
 pub const LEAST: &str = "D2-D9 D24-D27";
@@ -49,11 +49,11 @@ fn set(bytes: &mut [u8], widths: &[usize], field: u32, value: impl Value) {
     bytes[first..first + widths[index]].copy_from_slice(&value.bytes(widths[index]));
 }
 
-/// The mask of fields in words, as `D10 D12-D14 D32.4`.
+/// The mask of fields in words, as `D10 D12-D14 D32.4` or `H6 H32.2`.
 pub fn mask(words: &str) -> u64 {
-    let number = |word: &str| match word.strip_prefix("D32.") {
-        Some(j) => 31 + j.parse::<u32>().expect("a number of D32"),
-        None => word[1..].parse().expect("a number of D"),
+    let number = |word: &str| match word[1..].strip_prefix("32.") {
+        Some(j) => 31 + j.parse::<u32>().expect("a number of D32 or H32"),
+        None => word[1..].parse().expect("a number of D or H"),
     };
     words.split_whitespace().fold(0, |mask, word| {
         let (first, last) = word.split_once('-').unwrap_or((word, word));
@@ -111,6 +111,7 @@ enum Body {
     /// Bytes, in fields of these widths.
     Fields(Vec<u8>, &'static [usize]),
     Dwell(Box<Dwell>),
+    Hrr(Box<Hrr>),
     /// Bytes that are no segment at all.
     Raw(Vec<u8>),
 }
@@ -140,6 +141,10 @@ impl Part {
                 dwell.values[field as usize] = value.number();
                 self.given |= bit(field);
             }
+            Body::Hrr(hrr) => {
+                hrr.values[field as usize] = value.number();
+                self.given |= bit(field);
+            }
             Body::Raw(_) => {}
         }
         self
@@ -157,12 +162,30 @@ impl Part {
         self
     }
 
-    /// The dwell without these fields.
+    /// The dwell or the HRR segment without these fields.
     pub fn without(mut self, words: &str) -> Part {
-        if let Body::Dwell(dwell) = &mut self.body {
-            dwell.mask &= !mask(words);
+        match &mut self.body {
+            Body::Dwell(dwell) => dwell.mask &= !mask(words),
+            Body::Hrr(hrr) => hrr.mask &= !mask(words),
+            _ => {}
         }
         self
+    }
+
+    /// The HRR segment with a further scatterer of these values. Unless they were given, H6 tells their number, and H7 does, with H8 1.
+    pub fn scatterer(mut self, values: Scattered) -> Part {
+        if let Body::Hrr(hrr) = &mut self.body {
+            hrr.scatterers.push(scatterer_of(values));
+            for field in [6, 7].into_iter().filter(|field| self.given & bit(*field) == 0) {
+                hrr.values[field as usize] = hrr.scatterers.len() as u32;
+            }
+        }
+        self
+    }
+
+    /// The HRR segment with so many scatterers whose values differ, each of one byte.
+    pub fn scatterers(self, count: u32) -> Part {
+        (0..count).fold(self, |part, k| part.scatterer([0x21, 0x41, 0x61, 0x81].map(|first| first + k % 32)))
     }
 
     /// The dwell with a further target: the values of D32.j that are not usual.
@@ -196,6 +219,7 @@ impl Part {
         let mut body = match &self.body {
             Body::Fields(bytes, _) | Body::Raw(bytes) => bytes.clone(),
             Body::Dwell(dwell) => dwell.body(),
+            Body::Hrr(hrr) => hrr.body(),
         };
         if let Some(size) = self.size {
             body.resize(size - 5, 0);
@@ -213,17 +237,29 @@ impl Part {
         [&[self.segment_type][..], &size.to_be_bytes(), &body].concat()
     }
 
-    /// The dwell's mask and D2 to D31 at full widths: absent ones are zero unless they were given, and D5 is always stored.
+    /// The mask of a dwell or an HRR segment, and its fields to D31 or H31 at full widths: absent ones are zero unless they were given, and
+    /// D5 is always stored.
     pub fn full_fields(&self) -> Vec<u8> {
-        let Body::Dwell(dwell) = &self.body else { return Vec::new() };
-        let mut bytes = dwell.mask.to_be_bytes().to_vec();
+        let (mask, length, values, width) = match &self.body {
+            Body::Dwell(dwell) => (dwell.mask, 8, &dwell.values, width as fn(u32) -> usize),
+            Body::Hrr(hrr) => (hrr.mask, HRR_MASK, &hrr.values, hrr_width as fn(u32) -> usize),
+            _ => return Vec::new(),
+        };
+        let stored = mask | self.given | if length == 8 { bit(5) } else { 0 };
+        let mut bytes = mask.to_be_bytes()[..length].to_vec();
         for field in 2..=31 {
-            let is_kept = dwell.has(field) || self.given & bit(field) != 0 || field == 5;
-            let value = if is_kept { dwell.values[field as usize] } else { 0 };
+            let value = if stored & bit(field) != 0 { values[field as usize] } else { 0 };
             bytes.extend(i64::from(value).bytes(width(field)));
         }
         bytes
     }
+}
+
+/// Magnitude, phase, range index and Doppler index.
+pub type Scattered = [u32; 4];
+
+fn scatterer_of(values: Scattered) -> Scatterer {
+    [0, values[0], values[1], values[2], values[3]]
 }
 
 /// So many bytes that tell fields and their bytes apart.
@@ -290,6 +326,22 @@ pub fn masked(mask: u64) -> Part {
     (values[10], values[11]) = (0x1234, 0x5678);
     (values[24], values[25], values[27]) = (0x1234_5678, 0x9ABC_DEF0, 0x2727);
     part(2, Body::Dwell(Box::new(Dwell { mask, values, targets: Vec::new() })))
+}
+
+/// An HRR segment that announces what every one does and these fields, without scatterers: magnitudes have one byte, phases none.
+pub fn hrr(more: &str) -> Part {
+    hrr_masked(mask_of(&HRR_ALWAYS) | mask(more))
+}
+
+/// An HRR segment of this mask, which stands in the highest of 64 bits, without scatterers.
+pub fn hrr_masked(mask: u64) -> Part {
+    let mut values = [0; 32];
+    for field in 2..=31u32 {
+        values[field as usize] = pattern(field as usize, 48, hrr_width(field), 256);
+    }
+    (values[6], values[7], values[8]) = (0, 0, 1);
+    (values[25], values[26]) = (1, 0);
+    part(HRR_TYPE, Body::Hrr(Box::new(Hrr { mask, values, scatterers: Vec::new() })))
 }
 
 /// The usual values of the target of this number, from 0.

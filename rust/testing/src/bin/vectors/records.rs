@@ -1,5 +1,5 @@
 //! Records and sheets of the vectors, spelt by themselves and not read off a packet.
-use crate::parts::{header, mask, usual_target, Header, Part, Value};
+use crate::parts::{header, mask, usual_target, Header, Part, Scattered, Value};
 use testing::generator::tables::{bit, width};
 
 /// A sheet whose header has this length in P2.
@@ -13,11 +13,12 @@ pub fn sheet_behind(header: Header, records: &[Vec<u8>]) -> Vec<u8> {
     [&[1][..], &header, &records.concat()].concat()
 }
 
-/// The record of a mission, a dwell, a job definition, a test or a location; that of a free text has its pieces behind it.
+/// The record of a mission, a dwell, an HRR segment, a job definition, a test or a location; that of a free text has its pieces behind it.
 pub fn record(part: &Part) -> Vec<u8> {
     let (kind, mut body) = match part.segment_type {
         1 => (2, part.body()),
         2 => (3, part.full_fields()),
+        3 => (11, part.full_fields()),
         5 => (8, part.body()),
         6 => (5, text_body(&part.body())),
         10 => (9, part.body()),
@@ -52,6 +53,11 @@ pub fn target(announced: &str, given: &[(usize, i64)], latitude: i64, longitude:
     bytes.extend(latitude.bytes(4));
     bytes.extend(longitude.bytes(4));
     bytes
+}
+
+/// The record of a scatterer with these values.
+pub fn scatterer(values: Scattered) -> Vec<u8> {
+    values.into_iter().fold(vec![12], |record, value| [record, i64::from(value).bytes(2)].concat())
 }
 
 /// The record of a free text whose F3 has this length.

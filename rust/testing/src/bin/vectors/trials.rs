@@ -181,6 +181,7 @@ fn room(packet: &[u8]) -> usize {
         total += match packet[at] {
             1 => 1 + RECORD_LENGTHS[2],
             2 => 1 + RECORD_LENGTHS[3] + 45 * d5.min(body.len() / 4),
+            3 if packet[0] == b'3' => 1 + RECORD_LENGTHS[11] + 9 * body.len().saturating_sub(34),
             5 => 1 + RECORD_LENGTHS[8],
             6 => 1 + RECORD_LENGTHS[5] + pieces(body.len().saturating_sub(20)),
             10 => 1 + RECORD_LENGTHS[9],

@@ -12,7 +12,7 @@ pub fn row_17_kinds(t: &mut Trials) {
     let want = "no 17 0 0";
     t.refused("nothing", vec![], want);
     t.refused_to("nothing to a buffer", vec![], want, 40);
-    for kind in [0, 11, 255] {
+    for kind in [0, 13, 255] {
         t.refused(&format!("kind {kind} alone"), vec![kind], want);
         t.refused(&format!("kind {kind} behind"), sheet(3, 32, &[vec![kind]]), want);
         let between = [&[kind][..], &[0; 14]].concat();
@@ -298,13 +298,13 @@ pub fn order_of_17(t: &mut Trials) {
         ("early 18 late cut", [lone.clone(), cut(record(&test()), 14)]),
         ("early 18 late header", [lone, sheet(3, 66, &[])]),
         ("4 GB and cut", [opaque_record(7, 4_294_967_295), cut(record(&test()), 5)]),
-        ("D5 65535 and kind 11", [record(&dwell("").with(5, 65_535)), vec![11]]),
+        ("D5 65535 and kind 13", [record(&dwell("").with(5, 65_535)), vec![13]]),
         ("early 19 late kind", [marked.clone(), vec![255]]),
         ("early 19 late cut", [marked, cut(record(&mission()), 39)]),
     ] {
         t.refused(&format!("17 before {name}"), sheet(3, 80, &records), "no 17 0 0");
     }
-    t.refused_to("17 before P2", sheet(3, 99, &[vec![11]]), "no 17 0 0", 99);
+    t.refused_to("17 before P2", sheet(3, 99, &[vec![13]]), "no 17 0 0", 99);
     t.refused_to("17 before 20", sheet(3, 51, &[cut(record(&test()), 14)]), "no 17 0 0", 0);
 }
 

@@ -17,13 +17,15 @@ fn read(edition: u32, packet: &[u8]) -> Vec<u8> {
 pub fn each_kind(t: &mut Trials) {
     for version in [1, 3] {
         let trial_sheet = sheet(version, 92, &[record(&trial_dwell()), trial_target()]);
-        let opaque = sheet(version, 40, &[opaque_record(3, 3), piece(&[0, 255, 0])]);
+        // Type 3 is opaque in version 1 alone.
+        let opaque_type = if version == 1 { 3 } else { 4 };
+        let opaque = sheet(version, 40, &[opaque_record(opaque_type, 3), piece(&[0, 255, 0])]);
         for (name, sheet, want, part) in [
             ("mission", sheet(version, 32 + 44, &[record(&mission())]), "ok 1 0 0 76", mission()),
             ("dwell", sheet(version, 32 + 48, &[record(&dwell(""))]), "ok 1 1 0 80", dwell("")),
             ("target", trial_sheet, "ok 1 1 1 92", trial_dwell()),
             ("text", sheet(version, 32 + 28, &[text_record(3), piece(b"abc")]), "ok 1 0 0 60", text(b"abc")),
-            ("opaque", opaque, "ok 1 0 0 40", segment(3, &[0, 255, 0])),
+            ("opaque", opaque, "ok 1 0 0 40", segment(opaque_type, &[0, 255, 0])),
             ("job", sheet(version, 32 + 73, &[record(&job())]), "ok 1 0 0 105", job()),
             ("test", sheet(version, 32 + 19, &[record(&test())]), "ok 1 0 0 51", test()),
             ("location", sheet(version, 32 + 28, &[record(&location())]), "ok 1 0 0 60", location()),
@@ -49,7 +51,7 @@ pub fn with_pieces(t: &mut Trials) {
     }
     let records: Vec<Vec<u8>> = OPAQUE.iter().flat_map(|number| [opaque_record(*number, 1), piece(&[0])]).collect();
     let parts = OPAQUE.map(|number| segment(number, &[0]));
-    t.gives("opaque types", sheet(3, 32 + 9 * 6, &records), "ok 9 0 0 86", &packet(3, &parts));
+    t.gives("opaque types", sheet(1, 32 + 9 * 6, &records), "ok 9 0 0 86", &packet(1, &parts));
     let lines = b"a\r\nb\x0Cc\n";
     let made = sheet(3, 57 + 7, &[text_record(7), piece(lines)]);
     t.gives("text line ends", made, "ok 1 0 0 64", &packet(3, &[text(lines)]));
@@ -159,8 +161,8 @@ pub fn pairs(t: &mut Trials) {
 }
 
 pub fn other_types(t: &mut Trials) {
-    for counted in beside_others() {
-        gives_back(t, counted.name, 3, &counted);
-        gives_back(t, &format!("{} version 1", counted.name), 1, &counted);
+    for (counted, older) in beside_others(3).iter().zip(beside_others(1)) {
+        gives_back(t, counted.name, 3, counted);
+        gives_back(t, &format!("{} version 1", counted.name), 1, &older);
     }
 }

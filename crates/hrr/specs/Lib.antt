@@ -1,0 +1,3 @@
+pub mod Hrr
+pub mod InnerScatterers
+pub mod Trials
