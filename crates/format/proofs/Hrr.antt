@@ -17,9 +17,7 @@ use Rattle.octets.proofs.Layouts.{length-pad, pad-take}
 use Rattle.mask.specs.Fields.{announced, taken, announcedLength, announcedFields, d32}
 use Rattle.mask.specs.Mask.{isIn}
 use Rattle.mask.proofs.FullWidth.{length-full, announced-full}
-use Rattle.hrr.specs.declared.Scatterers.{Scatterers}
-use Rattle.hrr.specs.Hrr.{hrrMask, mandatory, allSet, isHrrMask, hrrWidths, hrrFields, H, scattererCount, scattererWidths, widened, narrowed, hrrSize, isHrrSize}
-use Rattle.hrr.specs.InnerScatterers.{widthsOf, Narrow}
+use Rattle.hrr.specs.Hrr.{hrrMask, mandatory, allSet, isHrrMask, hrrWidths, hrrFields, H, scattererCount, indexWidth, scattererWidths, widened, narrowed, hrrSize, isHrrSize}
 use Rattle.hrr.proofs.Words.{each-set}
 use Rattle.format.specs.declared.Check.the-variants.{Passed}
 use Rattle.format.specs.Packet.{s2}
@@ -107,8 +105,8 @@ AllNarrow [] = Unit {0}
 AllNarrow (w ∷ ws) = (w ≤ 2) × AllNarrow ws
 
 -- the widths as the code has them
-pub all-narrow : (s : Scatterers) → Narrow s → AllNarrow (widthsOf s)
-all-narrow s h = (h .0, (h .1, (h .2, (h .3, tt))))
+pub all-narrow : {a b c d : ℕ} → (a ≤ 2) × (b ≤ 2) × (c ≤ indexWidth) × (d ≤ indexWidth) → AllNarrow (a ∷ b ∷ c ∷ d ∷ [])
+all-narrow h = (h .0, (h .1, (omega (arith, h .2), (omega (arith, h .3), tt))))
 
 -- a scatterer has four numbers
 pub four-widths : (b : List ℕ) → length (widthsIn b) ≡ 4

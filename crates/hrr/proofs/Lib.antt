@@ -1,4 +1,3 @@
 pub mod Words
 pub mod Numbers
-pub mod Patterns
 pub mod Trials

@@ -4,6 +4,7 @@ use mathlib.Core.Path.{_≡_, refl, sym, ap, ap₂, _∙_}
 use mathlib.Core.Bool.{Bool, true, false, cond, and-eq-true-iff}
 use mathlib.Core.List.{List}
 use Prim.Native.Nat.{ℕ, _+_, _*_, _≤_, _<_}
+use native.Mathlib.Nat.{le-refl}
 use native.Mathlib.Omega.{arith}
 use lib.Dec.{lit≤, lit<}
 use lib.ListN.{length, getD, drop}
@@ -18,6 +19,14 @@ use Rattle.mask.proofs.FullWidth.{announced-append}
 use Rattle.hrr.specs.Hrr.{mandatory, allSet, isHrrMask, hrrWidths, H, counted, scattererCount}
 use Rattle.hrr.specs.InnerScatterers.{widths, numberIf}
 use Rattle.hrr.proofs.Words.{each-set}
+
+-- a field takes no more bytes than it has
+pub taken-most : (mask n w : ℕ) → taken mask n w ≤ w
+taken-most mask n w = go (announced mask n)
+  where
+    go : (t : Bool) → cond t w 0 ≤ w
+    go true = le-refl w
+    go false = omega arith
 
 -- a choice made twice is made once
 again : (t : Bool) (x y : ℕ) → cond t (cond t x 0) y ≡ cond t x y

@@ -1,6 +1,6 @@
 -- The scatterers of a segment as the code has them. Inner contracts alone speak of it.
 -- Assumes nothing.
-use Prim.Native.Nat.{ℕ, _+_, _-_, _≤_, min}
+use Prim.Native.Nat.{ℕ, _+_, _-_, _/_, _%_, _≤_, min}
 use mathlib.Core.Path.{_≡_}
 use mathlib.Core.Bool.{true, cond}
 use mathlib.Core.List.{List, [], _∷_}
@@ -42,13 +42,24 @@ scatterersOf mask f = withWidths mask (H 25 f) (H 26 f) (scattererCount mask f)
 abbrev pub widthsOf : Scatterers → List ℕ
 widthsOf s = s .magnitude ∷ s .phase ∷ s .range ∷ s .doppler ∷ []
 
--- each width fits a byte, and there are at most 65,535 times 65,535
+-- each width fits a byte
+abbrev pub Fitting : Scatterers → Type 0
+Fitting s = (s .magnitude ≤ 255) × (s .phase ≤ 255) × (s .range ≤ 255) × (s .doppler ≤ 255)
+
+-- and there are at most 65,535 times 65,535
 abbrev pub Bounded : Scatterers → Type 0
 Bounded s = (s .magnitude ≤ 255) × (s .phase ≤ 255) × (s .range ≤ 255) × (s .doppler ≤ 255) × (s .count ≤ 4294836225)
 
--- at most two bytes each, as row 22 leaves them and as they have on the sheet
+-- at most two bytes each, as row 22 leaves them and as they have on the sheet, and those of an index
 abbrev pub Narrow : Scatterers → Type 0
-Narrow s = (s .magnitude ≤ 2) × (s .phase ≤ 2) × (s .range ≤ 2) × (s .doppler ≤ 2)
+Narrow s = (s .magnitude ≤ 2) × (s .phase ≤ 2) × (s .range ≤ indexWidth) × (s .doppler ≤ indexWidth)
+
+-- four widths that are the digits of a number, and that they are such
+abbrev pub digits : ℕ → List ℕ
+digits n = n / 1000 ∷ n / 100 % 10 ∷ n / 10 % 10 ∷ n % 10 ∷ []
+
+abbrev pub NarrowDigits : ℕ → Type 0
+NarrowDigits n = (n / 1000 ≤ 2) × (n / 100 % 10 ≤ 2) × (n / 10 % 10 ≤ indexWidth) × (n % 10 ≤ indexWidth)
 
 -- the number in two bytes at a place of b where field n is announced, and 0 where it is not
 abbrev pub numberIf : ℕ → ℕ → ℕ → List ℕ → ℕ

@@ -7,7 +7,7 @@ ghost use lib.ListN.{length};
 ghost use Rattle.octets.specs.Layout.{total};
 ghost use Rattle.mask.specs.Fields.{announced, taken, announcedLength};
 ghost use Rattle.hrr.specs.Hrr.{hrrMask, isHrrMask, hrrWidths, hrrFields};
-ghost use Rattle.hrr.specs.InnerScatterers.{widths, Headed, Wide, withWidths, scatterersOf, widthsOf, Bounded, numberIf};
+ghost use Rattle.hrr.specs.InnerScatterers.{widths, Headed, Wide, withWidths, scatterersOf, widthsOf, Fitting, Bounded, Narrow, digits, NarrowDigits, numberIf};
 
 // Sets of fields, each a word with their bits: the mandatory ones with the magnitude, and what the last six bits would announce.
 const MANDATORY: u64 = 0xE2FB_C782_0000_0000;
@@ -183,8 +183,16 @@ pub fn scatterers_in(b: &[u8], mask: u64, at: usize) -> Scatterers
 
 // The bytes of a scatterer.
 pub fn each_of(s: Scatterers) -> usize
-    requires { ⌜ Bounded s ⌝ }
+    requires { ⌜ Fitting s ⌝ }
     ensures { λ r. ⌜ (r ≡ total (widthsOf s)) × (r ≤ 1020) ⌝ }
 {
     s.magnitude + s.phase + s.range + s.doppler
+}
+
+// The four widths as the digits of a number, by which a loop is chosen that knows them.
+pub fn pattern_of(s: Scatterers) -> usize
+    requires { ⌜ Narrow s ⌝ }
+    ensures { λ n. ⌜ (digits n ≡ widthsOf s) × NarrowDigits n ⌝ }
+{
+    s.magnitude * 1000 + s.phase * 100 + s.range * 10 + s.doppler
 }

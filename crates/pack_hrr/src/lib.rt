@@ -1,13 +1,13 @@
 // The way back of an HRR segment: of H2 to H31 at full widths the announced ones alone, from p on in s, to q on in o; and scatterers. Each
 // function of fields answers where the next one goes in o.
 ghost use mathlib.Core.Path.{_≡_};
-ghost use mathlib.Core.List.{[], _∷_};
-ghost use Prim.Native.Nat.{_+_, _-_, _*_, _/_, _%_, _≤_};
+ghost use Prim.Native.Nat.{_+_, _-_, _*_, _≤_};
 ghost use lib.ListN.{length, take, drop};
 ghost use lib.Seq.{sets};
 ghost use Rattle.octets.specs.Layout.{total};
+ghost use Rattle.words.specs.InnerWords.{Spells};
 ghost use Rattle.hrr.specs.Hrr.{hrrWidths, narrowed};
-ghost use Rattle.hrr.specs.InnerScatterers.{widths, widthsOf, Narrow};
+ghost use Rattle.hrr.specs.InnerScatterers.{widths, widthsOf, Narrow, digits, NarrowDigits};
 ghost use Rattle.pack.specs.InnerPacked.{Packable, Packed};
 ghost use Rattle.format.specs.Lengths.{recordLength};
 ghost use Rattle.pack_hrr.specs.InnerNarrowed.{narrowedAll};
@@ -84,97 +84,81 @@ pub fn hrr_fields(s: &[u8], p: usize, mask: u64, o: &mut [u8], q: usize) -> usiz
     h26_to_31(s, p + 46, mask, o, h26)
 }
 
-// The last w of the two bytes from p on in s, none to two, to q on in o. It answers where the next number goes.
-fn narrow(s: &[u8], p: usize, w: usize, o: &mut [u8], q: usize) -> usize
-    requires { ⌜ (w ≤ 2) × (p + 2 ≤ length (now s)) × (q + w ≤ length (now o)) ⌝ }
-    ensures { λ r. ⌜ r ≡ q + w ⌝ }
-    ensures { λ _. ⌜ now (o .exit) ≡ sets (now (o .entry)) q (drop (2 - w) (take 2 (drop p (now (s .entry))))) ⌝ }
+// The number in the last w of the two bytes at a place of x, none to two.
+fn narrow(x: &[u8], at: usize, w: usize) -> u64
+    requires { ⌜ (w ≤ 2) × (at + 2 ≤ length (now x)) ⌝ }
+    ensures { λ r. ⌜ Spells w r (drop (2 - w) (take 2 (drop at (now (x .entry))))) ⌝ }
 {
-    if w == 1 {
-        copies::copy1(s, p + 1, o, q);
-    } else if w == 2 {
-        copies::copy2(s, p, o, q);
-    }
-    q + w
+    words::get(x, at + (2 - w), w)
 }
 
-// The scatterer whose record x begins with.
-fn scatterer(x: &[u8], s: hrr::Scatterers, o: &mut [u8])
-    requires { ⌜ Narrow s × (recordLength 12 ≤ length (now x)) × (total (widthsOf s) ≤ length (now o)) ⌝ }
-    ensures { λ _. ⌜ now (o .exit) ≡ sets (now (o .entry)) 0 (narrowed (widthsOf s) (drop 1 (now (x .entry)))) ⌝ }
+// The scatterer whose record x begins with, the kind and four numbers of two bytes; its widths are the digits of n.
+fn scatterer(x: &[u8], n: usize, o: &mut [u8])
+    requires { ⌜ NarrowDigits n × (recordLength 12 ≤ length (now x)) × (total (digits n) ≤ length (now o)) ⌝ }
+    ensures { λ _. ⌜ now (o .exit) ≡ sets (now (o .entry)) 0 (narrowed (digits n) (drop 1 (now (x .entry)))) ⌝ }
 {
-    let phase = narrow(x, 1, s.magnitude, o, 0);
-    let range = narrow(x, 3, s.phase, o, phase);
-    let doppler = narrow(x, 5, s.range, o, range);
-    narrow(x, 7, s.doppler, o, doppler);
+    let magnitude = n / 1000;
+    let phase = n / 100 % 10;
+    let range = n / 10 % 10;
+    let doppler = n % 10;
+    let range_at = magnitude + phase;
+    let first = words::join(narrow(x, 1, magnitude), magnitude, narrow(x, 3, phase));
+    let last = words::join(narrow(x, 5, range), range, narrow(x, 7, doppler));
+    words::put_below_8(
+        o,
+        0,
+        range_at + (range + doppler),
+        words::join(first, range_at, last),
+    );
 }
 
-// So many of them, whose records x begins with.
-fn each(x: &[u8], s: hrr::Scatterers, count: usize, o: &mut [u8])
-    requires { ⌜ Narrow s × (count * recordLength 12 ≤ length (now x)) × (count * total (widthsOf s) ≤ length (now o)) ⌝ }
-    ensures { λ _. ⌜ now (o .exit) ≡ sets (now (o .entry)) 0 (narrowedAll (widthsOf s) count (now (x .entry))) ⌝ }
+// So many of them, of `each` bytes. That number is handed on and not worked out anew: where the compiler knows it to be one, it gathers sixteen
+// scatterers at a time, which takes longer.
+fn each_scatterer(x: &[u8], n: usize, each: usize, count: usize, o: &mut [u8])
+    requires { ⌜ NarrowDigits n × (each ≡ total (digits n)) × (count * recordLength 12 ≤ length (now x)) × (count * each ≤ length (now o)) ⌝ }
+    ensures { λ _. ⌜ now (o .exit) ≡ sets (now (o .entry)) 0 (narrowedAll (digits n) count (now (x .entry))) ⌝ }
 {
-    let each = s.magnitude + s.phase + s.range + s.doppler;
     let mut at: usize = 0;
     let mut q: usize = 0;
     for i in 0..count {
-        scatterer(&x[at..], s, &mut o[q..]);
+        scatterer(&x[at..], n, &mut o[q..]);
         at += format::ScattererRecord::WHOLE;
         q += each;
     }
 }
 
-// Two bytes of a number, the lower one first: in this order the compiler stores them in one step.
-fn put_two(o: &mut [u8], q: usize, v: u32)
-    requires { ⌜ q + 2 ≤ length (now o) ⌝ }
-    ensures { λ _. ⌜ now (o .exit) ≡ sets (now (o .entry)) q (v % 256 ∷ v / 256 % 256 ∷ []) ⌝ }
-{
-    o[q] = (v % 256) as u8;
-    o[q + 1] = (v / 256 % 256) as u8;
-}
-
-// The same of a scatterer of all four numbers, magnitude and phase of two bytes: four bytes at once, and both indices.
-fn full_scatterer(x: &[u8], o: &mut [u8])
-    requires { ⌜ (recordLength 12 ≤ length (now x)) × (6 ≤ length (now o)) ⌝ }
-    ensures { λ _. ⌜ now (o .exit) ≡ sets (now (o .entry)) 0 (narrowed (2 ∷ 2 ∷ 1 ∷ 1 ∷ []) (drop 1 (now (x .entry)))) ⌝ }
-{
-    copies::copy4(x, 1, o, 0);
-    put_two(o, 4, (x[6] as u32) + ((x[8] as u32) << 8));
-}
-
-// So many of them.
-fn full_scatterers(x: &[u8], count: usize, o: &mut [u8])
-    requires { ⌜ (count * recordLength 12 ≤ length (now x)) × (count * 6 ≤ length (now o)) ⌝ }
-    ensures { λ _. ⌜ now (o .exit) ≡ sets (now (o .entry)) 0 (narrowedAll (2 ∷ 2 ∷ 1 ∷ 1 ∷ []) count (now (x .entry))) ⌝ }
-{
-    for i in 0..count {
-        full_scatterer(&x[i * format::ScattererRecord::WHOLE..], &mut o[i * 6..]);
-    }
-}
-
-// These widths.
-fn of(magnitude: usize, phase: usize, range: usize, doppler: usize) -> hrr::Scatterers
-    ensures { λ s. ⌜ s ≡ record { magnitude = magnitude; phase = phase; range = range; doppler = doppler; count = 0 } ⌝ }
-{
-    hrr::Scatterers {
-        magnitude,
-        phase,
-        range,
-        doppler,
-        count: 0,
-    }
-}
-
-// The same, by a loop of its own for the most and the fewest numbers: there the compiler knows the widths, and tests none.
+// So many scatterers of these widths, whose records x begins with, by a loop of its own for each pattern of widths that row 22 lets pass.
 pub fn scatterers(x: &[u8], s: hrr::Scatterers, count: usize, o: &mut [u8])
     requires { ⌜ Narrow s × (count * recordLength 12 ≤ length (now x)) × (count * total (widthsOf s) ≤ length (now o)) ⌝ }
     ensures { λ _. ⌜ now (o .exit) ≡ sets (now (o .entry)) 0 (narrowedAll (widthsOf s) count (now (x .entry))) ⌝ }
 {
-    let pattern = s.magnitude * 1000 + s.phase * 100 + s.range * 10 + s.doppler;
-    match pattern {
-        1000 => each(x, of(1, 0, 0, 0), count, o),
-        2000 => each(x, of(2, 0, 0, 0), count, o),
-        2211 => full_scatterers(x, count, o),
-        _ => each(x, s, count, o),
+    let each = hrr::each_of(s);
+    let n = hrr::pattern_of(s);
+    match n {
+        1000 => each_scatterer(x, 1000, each, count, o),
+        1001 => each_scatterer(x, 1001, each, count, o),
+        1010 => each_scatterer(x, 1010, each, count, o),
+        1011 => each_scatterer(x, 1011, each, count, o),
+        1100 => each_scatterer(x, 1100, each, count, o),
+        1101 => each_scatterer(x, 1101, each, count, o),
+        1110 => each_scatterer(x, 1110, each, count, o),
+        1111 => each_scatterer(x, 1111, each, count, o),
+        1200 => each_scatterer(x, 1200, each, count, o),
+        1201 => each_scatterer(x, 1201, each, count, o),
+        1210 => each_scatterer(x, 1210, each, count, o),
+        1211 => each_scatterer(x, 1211, each, count, o),
+        2000 => each_scatterer(x, 2000, each, count, o),
+        2001 => each_scatterer(x, 2001, each, count, o),
+        2010 => each_scatterer(x, 2010, each, count, o),
+        2011 => each_scatterer(x, 2011, each, count, o),
+        2100 => each_scatterer(x, 2100, each, count, o),
+        2101 => each_scatterer(x, 2101, each, count, o),
+        2110 => each_scatterer(x, 2110, each, count, o),
+        2111 => each_scatterer(x, 2111, each, count, o),
+        2200 => each_scatterer(x, 2200, each, count, o),
+        2201 => each_scatterer(x, 2201, each, count, o),
+        2210 => each_scatterer(x, 2210, each, count, o),
+        2211 => each_scatterer(x, 2211, each, count, o),
+        _ => each_scatterer(x, n, each, count, o),
     }
 }

@@ -4,4 +4,4 @@ use Prim.Native.Nat.{ℕ}
 
 -- how many bytes it has: the code's WINDOW
 abbrev pub windowLength : ℕ
-windowLength = 512
+windowLength = 576

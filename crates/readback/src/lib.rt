@@ -20,8 +20,9 @@ ghost use Rattle.dwell_checks.specs.InnerPlan.{Holds};
 ghost use Rattle.segments.specs.InnerWalk.{Checked, bytesOf, CheckedAll, CheckedPacket, allBytes};
 ghost use Rattle.readback.specs.InnerWindow.{windowLength};
 
-// The bytes of the window that records are laid out in.
-const WINDOW: usize = 512;
+// The bytes of the window that records are laid out in. The loop that compares takes 32 bytes a step: as many scatterers of 9 bytes as fit, 64,
+// fill whole steps, and so do as many pieces of 34, 16 in 544 bytes. Nothing is left over then to be compared byte by byte.
+const WINDOW: usize = 576;
 
 // How many targets, scatterers and pieces it has room for.
 const TARGETS: usize = WINDOW / format::TargetRecord::WHOLE;

@@ -52,6 +52,10 @@ pub record BeginsWith (n : ℕ) (x : List ℕ) : Type 0 where
   pub long : n * recordLength 12 ≤ length x
   pub kinds : (i : ℕ) → i < n → getD x (i * recordLength 12) 0 ≡ 12
 
+-- an answer that tells whether it does; inner contracts alone speak of it
+abbrev pub Tells : Bool → ℕ → List ℕ → Type 0
+Tells r n x = (r ≡ true → BeginsWith n x) × (BeginsWith n x → r ≡ true)
+
 -- what a record says that begins a segment
 unfoldable pub leadOf : Record → Lead
 leadOf r = record { «segment_type» = typeOf r; given = length (given r); follower = calledFor r .kind; left = calledFor r .left; each = eachTakes r }

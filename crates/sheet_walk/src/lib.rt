@@ -1,13 +1,14 @@
 // The records of a sheet: the one at a place, what the one says that begins a segment, and how much those have that follow it.
 ghost use mathlib.Core.Path.{_≡_};
-ghost use mathlib.Core.Bool.{true, _||_, cond};
-ghost use Prim.Native.Nat.{_≤_, min};
+ghost use mathlib.Core.Bool.{true, _||_};
+ghost use Prim.Native.Nat.{_*_, _≤_, min};
 ghost use lib.Dec.{eqb};
 ghost use lib.ListN.{length, drop};
 ghost use Rattle.hrr.specs.InnerScatterers.{Narrow};
 ghost use Rattle.format.specs.Sheet.{bodyLength};
+ghost use Rattle.format.specs.Lengths.{recordLength};
 ghost use Rattle.format.specs.Writer.{listed, due, share as shareOf, carried as carriedBy};
-ghost use Rattle.sheet_walk.specs.InnerShape.{placeAt, isRest, scatterersBehind, leadOf, sizeBy, Bounded, BeginsWith};
+ghost use Rattle.sheet_walk.specs.InnerShape.{placeAt, isRest, scatterersBehind, leadOf, sizeBy, Bounded, BeginsWith, Tells};
 
 // The kinds are the numbers below this one, without 0.
 const KINDS: u8 = format::ScattererRecord::KIND + 1;
@@ -28,6 +29,9 @@ const BODY_LENGTHS: [u8; KINDS as usize] = [
     format::HrrRecord::LEN as u8,
     format::ScattererRecord::LEN as u8,
 ];
+
+// The bytes of four scatterers' records.
+const FOUR: usize = 4 * format::ScattererRecord::WHOLE;
 
 // A byte as a wider number: where it is used, no proof is asked that it fits.
 fn wide(x: u8) -> usize
@@ -209,17 +213,41 @@ fn with_scatterers(b: &[u8]) -> Lead
         given: hrr::MASK + hrr::fields_length(hrr::mask_of(b)),
         follower: format::ScattererRecord::KIND,
         left: s.count,
-        each: s.magnitude + s.phase + s.range + s.doppler,
+        each: hrr::each_of(s),
     }
 }
 
-// Whether x begins with so many scatterers.
-pub fn are_scatterers(x: &[u8], count: usize) -> bool
-    ensures { λ r. ⌜ (r ≡ true → BeginsWith count (now (x .entry))) × (BeginsWith count (now (x .entry)) → r ≡ true) ⌝ }
+// Whether x begins with four scatterers.
+fn are_four(x: &[u8]) -> bool
+    requires { ⌜ 4 * recordLength 12 ≤ length (now x) ⌝ }
+    ensures { λ r. ⌜ Tells r 4 (now (x .entry)) ⌝ }
 {
-    if x.len() / format::ScattererRecord::WHOLE < count {
-        return false;
+    x[0] == format::ScattererRecord::KIND
+        && x[format::ScattererRecord::WHOLE] == format::ScattererRecord::KIND
+        && x[2 * format::ScattererRecord::WHOLE] == format::ScattererRecord::KIND
+        && x[3 * format::ScattererRecord::WHOLE] == format::ScattererRecord::KIND
+}
+
+// Whether x begins with n times four scatterers.
+fn are_fours(x: &[u8], n: usize) -> bool
+    requires { ⌜ n * 4 * recordLength 12 ≤ length (now x) ⌝ }
+    ensures { λ r. ⌜ Tells r (n * 4) (now (x .entry)) ⌝ }
+{
+    let mut at: usize = 0;
+    for i in 0..n {
+        if !are_four(&x[at..]) {
+            return false;
+        }
+        at += FOUR;
     }
+    true
+}
+
+// The same by one record a turn, for the few that are left.
+fn are_few(x: &[u8], count: usize) -> bool
+    requires { ⌜ count * recordLength 12 ≤ length (now x) ⌝ }
+    ensures { λ r. ⌜ Tells r count (now (x .entry)) ⌝ }
+{
     let mut at: usize = 0;
     for i in 0..count {
         if x[at] != format::ScattererRecord::KIND {
@@ -228,6 +256,20 @@ pub fn are_scatterers(x: &[u8], count: usize) -> bool
         at += format::ScattererRecord::WHOLE;
     }
     true
+}
+
+// Whether x begins with so many scatterers. Four are looked at in a turn: with one record a turn, the branch for each is what the loop waits for.
+pub fn are_scatterers(x: &[u8], count: usize) -> bool
+    ensures { λ r. ⌜ (r ≡ true → BeginsWith count (now (x .entry))) × (BeginsWith count (now (x .entry)) → r ≡ true) ⌝ }
+{
+    if x.len() / format::ScattererRecord::WHOLE < count {
+        return false;
+    }
+    let fours = count / 4;
+    if !are_fours(x, fours) {
+        return false;
+    }
+    are_few(&x[fours * FOUR..], count % 4)
 }
 
 // By the record's kind.

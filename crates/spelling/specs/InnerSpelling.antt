@@ -81,6 +81,10 @@ Spellable leader r =
     × (r .kind ≡ 6 → getD (r .body) 0 0 ≤ 32)
     × (r .kind ≡ 12 → ⊥)
 
+-- the same with rest behind the record, which begins with the scatterers that it calls for; inner contracts alone speak of it
+abbrev pub SpellableNext : List ℕ → Record → List ℕ → Type 0
+SpellableNext leader r rest = Spellable leader r × (r .kind ≡ 11 → BeginsWith (scatterersBehind (r .body) .count) rest)
+
 -- ---- rows 17 and 18, and the length of the packet
 
 -- no packet is longer than 65,536, so anything longer is counted as 65,537

@@ -1,8 +1,9 @@
 // The packet that a sheet spells: the header, then each segment with S2 worked out and only announced fields.
 ghost use mathlib.Core.Path.{_≡_};
 ghost use mathlib.Core.Bool.{cond};
-ghost use mathlib.Core.List.{_∷_, _++_};
+ghost use mathlib.Core.List.{_∷_};
 ghost use Prim.Native.Nat.{_*_, _≤_};
+ghost use lib.Dec.{eqb};
 ghost use lib.ListN.{length, getD, take, drop};
 ghost use lib.Seq.{sets};
 ghost use Rattle.octets.specs.Octets.{bytes};
@@ -10,8 +11,9 @@ ghost use Rattle.format.specs.Sheet.{bodyLength};
 ghost use Rattle.format.specs.Lengths.{recordLength};
 ghost use Rattle.format.specs.Writer.{listed, due, given as givenOf, spell as spellSheet};
 ghost use Rattle.sheet_walk.specs.InnerShape.{placeAt, isRest, Shaped, scatterersBehind, BeginsWith};
-ghost use Rattle.spelling.specs.declared.Survey.the-variants.{Unlisted, Incomplete};
-ghost use Rattle.spelling.specs.InnerSpelling.{begun, spelt, scattered, speltNext, readNext, recordIn, leading, Begins, Spellable, headerEnd, surveyed, capped as cappedAt, counted, Passes};
+ghost use Rattle.spelling.specs.declared.Survey.the-variants.{Unlisted, Incomplete, Spells};
+ghost use Rattle.spelling.specs.InnerSpelling.{begun, spelt, scattered, speltNext, readNext, recordIn, leading, Begins, Spellable, SpellableNext};
+ghost use Rattle.spelling.specs.InnerSpelling.{headerEnd, surveyed, capped as cappedAt, counted, Passes};
 use sheet_walk::Place;
 
 // What rows 17 and 18 say of a sheet and, where neither applies, how long its packet is.
@@ -109,26 +111,32 @@ fn passed(x: &[u8], at: usize, follower: u8, left: usize) -> usize
     }
 }
 
+// What is found at the sheet's end, where so much is due and so many bytes are spelt.
+fn ended(left: usize, sum: usize) -> Survey
+    ensures { λ r. ⌜ r ≡ cond (eqb left 0) (Spells sum) Incomplete ⌝ }
+{
+    if left == 0 {
+        Survey::Spells(sum)
+    } else {
+        Survey::Incomplete
+    }
+}
+
 // Rows 17 and 18 and the length of the packet, in one walk. A later fault of row 17 comes before an earlier one of row 18.
 pub fn survey_of(x: &[u8]) -> Survey
     ensures { λ r. ⌜ r ≡ surveyed (now (x .entry)) ⌝ }
 {
-    let start = header_end(x);
-    if start == 0 {
+    let mut at = header_end(x);
+    if at == 0 {
         return Survey::Unlisted;
     }
-    let mut at = start;
     let mut follower: u8 = 0;
     let mut left = 0;
     let mut sum = format::HeaderRecord::LEN;
     loop {
         match sheet_walk::record_at(x, at) {
             Place::Cut => return Survey::Unlisted,
-            Place::End => return if left == 0 {
-                Survey::Spells(sum)
-            } else {
-                Survey::Incomplete
-            },
+            Place::End => return ended(left, sum),
             Place::Whole(kind, end) => {
                 if kind == format::HeaderRecord::KIND {
                     return Survey::Unlisted;
@@ -248,7 +256,7 @@ fn put_scatterers(b: &[u8], rest: &[u8], o: &mut [u8]) -> Step
     ensures { λ _. ⌜ now (o .exit) ≡ sets (now (o .entry)) 0 (scattered (now (b .entry)) (now (rest .entry))) ⌝ }
 {
     let s = sheet_walk::scatterers_behind(b);
-    let each = s.magnitude + s.phase + s.range + s.doppler;
+    let each = hrr::each_of(s);
     pack_hrr::scatterers(rest, s, s.count, o);
     Step {
         read: s.count * format::ScattererRecord::WHOLE,
@@ -258,7 +266,7 @@ fn put_scatterers(b: &[u8], rest: &[u8], o: &mut [u8]) -> Step
 
 // What a record adds to the packet, with the scatterers behind it.
 fn put_next(kind: u8, leader: &[u8], b: &[u8], rest: &[u8], o: &mut [u8]) -> Step
-    requires { ⌜ Spellable (now leader) (recordIn kind (now b)) × (kind ≡ 11 → BeginsWith (scatterersBehind (now b) .count) (now rest)) × (length (speltNext (leading (now leader)) (recordIn kind (now b)) (now rest)) ≤ length (now o)) ⌝ }
+    requires { ⌜ SpellableNext (now leader) (recordIn kind (now b)) (now rest) × (length (speltNext (leading (now leader)) (recordIn kind (now b)) (now rest)) ≤ length (now o)) ⌝ }
     ensures { λ s. ⌜ (s .read ≡ readNext (recordIn kind (now (b .entry)))) × (s .written ≡ length (speltNext (leading (now (leader .entry))) (recordIn kind (now (b .entry))) (now (rest .entry)))) ⌝ }
     ensures { λ _. ⌜ now (o .exit) ≡ sets (now (o .entry)) 0 (speltNext (leading (now (leader .entry))) (recordIn kind (now (b .entry))) (now (rest .entry))) ⌝ }
 {

@@ -36,6 +36,7 @@ fn main() {
     last.iter().for_each(print_case);
     print_ratios(last);
     print_growth((rounds / 10).max(1));
+    print_patterns((rounds / 10).max(1));
 }
 
 /// The numbers of rounds and of runs.
@@ -122,15 +123,18 @@ fn dwells(pairs: impl Iterator<Item = u32>) -> Vec<u8> {
     valid::packet_by_pairs(&mut Random::new(7), &pairs.collect::<Vec<_>>()).bytes()
 }
 
-/// A packet of one HRR segment whose scatterers have so many bytes of magnitude and of phase, and the indices where there is a phase. H6
-/// tells their number.
-fn scatterers(widths: (u32, u32), count: usize) -> Vec<u8> {
-    let others = if widths.1 == 0 { 0 } else { mask_of(&[33, 34, 35]) };
-    packet(vec![hrr::with_widths(&mut Random::new(8), mask_of(&HRR_ALWAYS) | bit(6) | others, widths, count).segment()])
+/// The bytes of a scatterer's magnitude, phase, range index and Doppler index; an absent one has none.
+type Widths = [u32; 4];
+
+/// A packet of one HRR segment whose scatterers have these widths. H6 tells their number.
+fn scatterers(widths: Widths, count: usize) -> Vec<u8> {
+    let present: Vec<u32> = (33..=35).zip(&widths[1..]).filter(|(_, width)| **width > 0).map(|(field, _)| field).collect();
+    let mask = mask_of(&HRR_ALWAYS) | bit(6) | mask_of(&present);
+    packet(vec![hrr::with_widths(&mut Random::new(8), mask, (widths[0], widths[1]), count).segment()])
 }
 
 /// The same with as many scatterers as fit.
-fn full_of_scatterers(widths: (u32, u32)) -> Vec<u8> {
+fn full_of_scatterers(widths: Widths) -> Vec<u8> {
     let empty = scatterers(widths, 0).len();
     let each = scatterers(widths, 1).len() - empty;
     scatterers(widths, (LONGEST_PACKET - empty) / each)
@@ -186,8 +190,8 @@ fn cases() -> Vec<Case> {
         Case::new(RISING, dwells(0..MOST_DWELLS)),
         Case::new(FALLING, dwells((0..MOST_DWELLS).rev())),
         Case::new(ALIKE, dwells((0..MOST_DWELLS).map(|_| 7))),
-        Case::new(MAGNITUDES, full_of_scatterers((1, 0))),
-        Case::new(PROFILES, full_of_scatterers((2, 2))),
+        Case::new(MAGNITUDES, full_of_scatterers([1, 0, 0, 0])),
+        Case::new(PROFILES, full_of_scatterers([2, 2, 1, 1])),
     ]
 }
 
@@ -397,7 +401,7 @@ fn print_growth(rounds: usize) {
     println!("### Growth: one dwell with mask {SMALL:016X} (D2 to D11, D24 to D27, D32.4, D32.5), {rounds} rounds, ns a target\n");
     print_growth_of("Targets", [1000, 2000, 4000, 8000, 16_000], |count| dwell(SMALL, count as u64), rounds);
     println!("\n### Growth: one HRR segment with scatterers of one byte, {rounds} rounds, ns a scatterer\n");
-    print_growth_of("Scatterers", [4000, 8000, 16_000, 32_000, 64_000], |count| scatterers((1, 0), count), rounds);
+    print_growth_of("Scatterers", [4000, 8000, 16_000, 32_000, 64_000], |count| scatterers([1, 0, 0, 0], count), rounds);
 }
 
 fn print_growth_of(things: &str, counts: [usize; 5], packet_of: fn(usize) -> Vec<u8>, rounds: usize) {
@@ -409,6 +413,27 @@ fn print_growth_of(things: &str, counts: [usize; 5], packet_of: fn(usize) -> Vec
         let cells = times.iter().map(|t| format!("{:.2} | {:.2}", t.best / count as f64, t.median / count as f64));
         println!("| {count} | {} |", cells.collect::<Vec<_>>().join(" | "));
     }
+}
+
+/// So many scatterers of each pattern of widths: few enough to fit where each has the most bytes.
+const OF_A_PATTERN: usize = 10_000;
+
+fn print_patterns(rounds: usize) {
+    println!("\n### Patterns: {OF_A_PATTERN} scatterers of each pattern of widths, {rounds} rounds, ns a scatterer, best\n");
+    print_head("Magnitude, phase, range, Doppler", &["verified read", "read by hand", "ratio", "verified write", "over the read"]);
+    let variants = [VERIFIED_READ, READ_BY_HAND, VERIFIED_WRITE].map(|variant| &VARIANTS[variant]);
+    for widths in patterns() {
+        let times = rounds_of(&mut Case::new("a pattern", scatterers(widths, OF_A_PATTERN)), &variants, rounds);
+        let [read, by_hand, write] = [0, 1, 2].map(|variant| times[variant].best / OF_A_PATTERN as f64);
+        let name = widths.map(|width| width.to_string()).join(", ");
+        println!("| {name} | {read:.2} | {by_hand:.2} | {:.2} | {write:.2} | {:.2} |", read / by_hand, write / read);
+    }
+}
+
+/// Every pattern of widths that row 22 lets pass.
+fn patterns() -> impl Iterator<Item = Widths> {
+    let indices = |magnitude, phase| [[0, 0], [0, 1], [1, 0], [1, 1]].map(|[range, doppler]| [magnitude, phase, range, doppler]);
+    (1..=2).flat_map(move |magnitude| (0..=2).flat_map(move |phase| indices(magnitude, phase)))
 }
 
 /// The most that text may take, over the reader by hand.

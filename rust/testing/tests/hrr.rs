@@ -76,13 +76,14 @@ fn patterns() -> Vec<((u32, u32), u64)> {
     patterns
 }
 
-/// Every pattern of widths with every count up to 40, told by H6 or by H7 and H8.
+/// Every pattern of widths with every count up to 40, and with those near where the writer compares a batch more, told by H6 or by H7
+/// and H8.
 #[test]
 fn every_pattern_of_scatterers() {
     let mut comparison = Comparison::new(802);
     let mut index = 0;
     for (widths, fields) in patterns() {
-        for count in 0..=40 {
+        for count in (0..=40).chain(56..=66).chain(127..=130) {
             for told in [&[6][..], &[7], &[6, 7]] {
                 index += 1;
                 comparison.begin("scatterers", index);
@@ -93,7 +94,7 @@ fn every_pattern_of_scatterers() {
             }
         }
     }
-    assert_eq!(index, 48 * 41 * 3);
+    assert_eq!(index, 48 * (41 + 11 + 4) * 3);
 }
 
 /// A mask with one bit changed: 21 for those that every mask sets or that announce nothing.
@@ -265,6 +266,27 @@ fn every_byte_of_a_scatterer() {
             }
         }
     }
+}
+
+/// A record of any kind in the place of each of up to nine scatterers, which are looked at four at a time.
+#[test]
+fn every_place_of_another_kind() {
+    let mut comparison = Comparison::new(811);
+    let random = &mut Random::new(811);
+    comparison.begin("kinds", 0);
+    for count in 1..=9 {
+        let records = records_of(&with_widths(random, mask_of(&HRR_ALWAYS) | bit(6), (1, 0), count));
+        let sheet = sheet_with(random, &records);
+        for place in 0..count {
+            for kind in 0..=13 {
+                let mut changed = sheet.clone();
+                changed[33 + 67 + 9 * place] = kind;
+                let answer = held(comparison.write(&changed, 200));
+                assert_eq!(answer.is_accepted(), kind == 12, "{answer}, kind {kind} in place {place} of {count}");
+            }
+        }
+    }
+    assert!([17, 18].iter().all(|row| comparison.tally.writer[*row] > 10), "{}", comparison.tally);
 }
 
 /// Every byte of a kind 11 changed, in sheets of any mask; the writer of the library is held to the independent one.

@@ -5,9 +5,10 @@ use mathlib.Core.Path.{refl, sym, ap, _∙_}
 use Prim.Native.Nat.{ℕ, _+_}
 use native.Mathlib.Omega.{arith}
 use denote.Ref.{now}
-use Rattle.mask.specs.Fields.{announcedLength}
-use Rattle.hrr.specs.Hrr.{isHrrMask, hrrWidths, hrrFields, scattererWidths}
+use Rattle.mask.specs.Fields.{announcedLength, d32}
+use Rattle.hrr.specs.Hrr.{isHrrMask, hrrWidths, hrrFields, indexWidth, scattererWidths}
 use Rattle.hrr.specs.InnerScatterers.{scatterersOf}
+use Rattle.hrr.proofs.Numbers.{taken-most}
 use Rattle.format.proofs.Hrr.{is-hrr, widths-narrow}
 use Rattle.hrr_checks.proofs.scatterers_in.Statement.{statement}
 use Rattle.hrr_checks.proofs.scatterers_in.Tie as tie
@@ -34,7 +35,7 @@ returns c =
     let h = is-hrr b (s .pre) in
     let is = c .scatterers-in .ensures .0 ∙ ap (λ (k : ℕ). scatterersOf k (hrrFields b)) m in
     let narrow = widths-narrow b h in (
-      (is, rw is (narrow .0, narrow .1 .0, narrow .1 .1 .0, narrow .1 .1 .1 .0), c .scatterers-in .ensures .1),
+      (is, rw is (narrow .0, narrow .1 .0, taken-most _ (d32 3) indexWidth, taken-most _ (d32 4) indexWidth), c .scatterers-in .ensures .1),
       ((refl, h .mask-passes, omega (arith, h .exact)), rw is (sym (h .exact))),
     )
 

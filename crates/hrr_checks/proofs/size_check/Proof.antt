@@ -74,7 +74,9 @@ scatterers-in-requires c κs =
     ((s .pre .0, s .pre .1, has-fields (at .before)), place at)
 
 each-of-requires : tie.Need-each-of-requires
-each-of-requires c κs = c .scatterers-in .ensures .1
+each-of-requires c κs =
+    let b = c .scatterers-in .ensures .1 in
+    (b .0, b .1, b .2, b .3)
 
 -- what the scatterers take, as row 22 counts it
 product-is : (c : tie.After-each-of) → let b = now (c .before .before .before .before .before .before .before .before .before .before .args .b) in

@@ -9,7 +9,7 @@ use lib.ListN.{length, drop}
 use lib.Seq.{sets}
 use borrow.Author.Needs.{needs}
 use Rattle.octets.specs.Layout.{total}
-use Rattle.hrr.specs.InnerScatterers.{widthsOf}
+use Rattle.hrr.specs.InnerScatterers.{digits}
 use Rattle.format.specs.Sheet.{scattererRecords, recordBytes}
 use Rattle.format.specs.Lengths.{recordLength}
 use Rattle.hrr_records.proofs.Scatterers.{scatterers-next, scatterers-last}
@@ -17,31 +17,31 @@ use Rattle.hrr_records.proofs.each_record.Statement.{statement}
 use Rattle.hrr_records.proofs.each_record.Tie as tie
 
 abbrev Inv-loop : tie.InvT-loop
-Inv-loop t s count o₀ each at₀ q₀ i₀ o at q i =
+Inv-loop t n count o₀ each at₀ q₀ i₀ o at q i =
     (i ≤ count) × (at ≡ i * each) × (q ≡ i * recordLength 12) × (length o ≡ length o₀)
-    × (sets o q (recordBytes (scattererRecords (widthsOf s) (count - i) (drop at t))) ≡ sets o₀ 0 (recordBytes (scattererRecords (widthsOf s) count t)))
+    × (sets o q (recordBytes (scattererRecords (digits n) (count - i) (drop at t))) ≡ sets o₀ 0 (recordBytes (scattererRecords (digits n) count t)))
 
 abbrev μ-loop : tie.MeasureT-loop
-μ-loop t s count o₀ each at₀ q₀ i₀ o at q i = count - i
+μ-loop t n count o₀ each at₀ q₀ i₀ o at q i = count - i
 
 abbrev start : tie.In-loop Inv-loop μ-loop → tie.Start Inv-loop μ-loop
-start c = c .before .before .before .before .before .before .before
+start c = c .before .before .before .before
 
 -- in a turn the scatterer lies within, and its record has room
 within : (c : tie.In-loop Inv-loop μ-loop) → let a = start c .args in let l = c .before .loop in
-    (l .at + total (widthsOf (a .s)) ≤ length (now (a .t))) × (l .q + recordLength 12 ≤ length (l .o))
+    (l .at + total (digits (a .n)) ≤ length (now (a .t))) × (l .q + recordLength 12 ≤ length (l .o))
 unfolding total
 within c =
     let s = start c in
     let l = c .before .loop in
-    let all = mul-le-mul-right {m = suc (l .i)} {n = s .args .count} (total (widthsOf (s .args .s))) (c .loop-test .taken) in
+    let all = mul-le-mul-right {m = suc (l .i)} {n = s .args .count} (total (digits (s .args .n))) (c .loop-test .taken) in
     (omega (arith, l .inv, s .pre), omega arith)
 
 loop-holds : tie.Need-loop-holds Inv-loop μ-loop
 loop-holds c =
-    let a = c .before .before .before .before .before .args in
+    let a = c .before .before .args in
     let e : a .count - 0 ≡ a .count = omega arith in
-    (omega arith, omega arith, omega arith, refl, ap (λ (n : ℕ). sets (now (a .o)) 0 (recordBytes (scattererRecords (widthsOf (a .s)) n (now (a .t))))) e)
+    (omega arith, omega arith, omega arith, refl, ap (λ (n : ℕ). sets (now (a .o)) 0 (recordBytes (scattererRecords (digits (a .n)) n (now (a .t))))) e)
 
 scatterer-record-requires : tie.Need-scatterer-record-requires Inv-loop μ-loop
 scatterer-record-requires c κs =
@@ -62,14 +62,14 @@ loop-again c =
       omega arith,
       omega arith,
       search needs,
-      scatterers-next (widthsOf (a .s)) (a .count - l .i) (a .count - (l .i + 1)) (l .at) (l .q) _ (now (a .t)) (l .o) _ (omega arith) (omega arith) (stored .scatterer-record .ensures) (l .inv .4),
+      scatterers-next (digits (a .n)) (a .count - l .i) (a .count - (l .i + 1)) (l .at) (l .q) _ (now (a .t)) (l .o) _ (omega arith) (omega arith) (stored .scatterer-record .ensures) (l .inv .4),
     )
 
 returns : tie.Need-returns Inv-loop μ-loop
 returns c =
-    let a = c .before .before .before .before .before .before .before .args in
+    let a = c .before .before .before .before .args in
     let l = c .before .loop in
-    scatterers-last (widthsOf (a .s)) (a .count - l .i) (l .at) (l .q) (now (a .t)) (l .o) _ (omega arith) (l .inv .4)
+    scatterers-last (digits (a .n)) (a .count - l .i) (l .at) (l .q) (now (a .t)) (l .o) _ (omega arith) (l .inv .4)
 
 pub each-record-spec : {M : Type 1} → statement M
 each-record-spec =

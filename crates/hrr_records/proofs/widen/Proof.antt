@@ -1,37 +1,24 @@
--- `hrr_records::widen` meets its contract. None, one or two bytes are copied, behind the zeros that are there.
+-- `hrr_records::widen` meets its contract. The bytes stand behind zeros.
 -- Assumes nothing.
-use mathlib.Core.Path.{refl, ap, _∙_}
-use mathlib.Core.Logic.{⊎-elim}
-use Prim.Native.Nat.{_+_}
+use native.Mathlib.Nat.{one-le-pow}
 use native.Mathlib.Omega.{arith}
 use denote.Ref.{now}
-use lib.ListN.{length}
-use lib.Seq.{length-sets}
+use lib.Dec.{lit<}
 use borrow.Author.Needs.{needs}
-use Rattle.hrr_records.proofs.Widened.{wide-copied}
+use Rattle.words.proofs.Words.{half}
+use Rattle.hrr_records.proofs.Widened.{wide-spelt}
 use Rattle.hrr_records.proofs.widen.Statement.{statement}
 use Rattle.hrr_records.proofs.widen.Tie as tie
+
+join-requires : tie.Need-join-requires
+join-requires c κs =
+    let s = c .before .before in
+    (omega arith, one-le-pow _ 256 (lit< tt), half (s .args .w) (omega (arith, s .pre)) (c .get .ensures))
 
 returns : tie.Need-returns
 returns c =
     let s = c .before .before .before in
-    let a = s .args in
-    let clear = s .pre .3 in
-    let t = now (a .t) in
-    let o = now (a .o) in (
-      refl,
-      ⊎-elim
-          (λ k. wide-copied 1 (a .w) (a .at) (a .q) (a .q + 1) t o (k .0 .taken) (omega arith) (omega arith) (omega arith) clear refl (k .5 ∙ k .2 .ensures))
-          (⊎-elim
-          (λ k. wide-copied 2 (a .w) (a .at) (a .q) (a .q) t o (k .1 .taken) (omega arith) (omega arith) (omega arith) clear (omega arith) (k .6 ∙ k .3 .ensures))
-          (λ k. wide-copied 0 (a .w) (a .at) (a .q) (a .q + 2) t o (omega arith) (omega arith) (omega arith) (omega arith) clear refl (k .2)))
-          (c .if1 .came),
-    )
-
-same-length : tie.Need-same-length
-same-length c = ap length (returns c .1) ∙ simp length-sets
+    wide-spelt (s .args .w) (s .args .at) _ _ (now (s .args .t)) (s .pre .0) (s .pre .1) (c .before .get .ensures) (c .join .ensures)
 
 pub widen-spec : {M : Type 1} → statement M
-widen-spec =
-    tie.close
-    (tie.spec (λ c. search needs) (λ c κs. search needs) (λ c κs. search needs) (λ c. search needs) same-length returns)
+widen-spec = tie.close (tie.spec (λ c. search needs) (λ c κs. search needs) join-requires returns)

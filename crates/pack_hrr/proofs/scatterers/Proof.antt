@@ -1,121 +1,106 @@
--- `pack_hrr::scatterers` meets its contract. In each arm the pattern tells the widths.
+-- `pack_hrr::scatterers` meets its contract. In each arm the pattern is a number that is known.
 -- Assumes nothing.
-use mathlib.Core.Path.{_≡_, sym, ap, _∙_}
-use mathlib.Core.List.{List, [], _∷_}
-use Prim.Native.Nat.{ℕ, _+_, _*_, _≤_}
+use mathlib.Core.Path.{_≡_, refl, sym, ap, _∙_}
+use mathlib.Core.List.{List}
+use Prim.Native.Nat.{ℕ, _*_, _≤_}
 use native.Mathlib.Omega.{arith}
 use denote.Ref.{now}
 use lib.ListN.{length}
 use lib.Seq.{sets}
 use borrow.Author.Needs.{needs}
 use Rattle.octets.specs.Layout.{total}
-use Rattle.hrr.specs.declared.Scatterers.{Scatterers}
-use Rattle.hrr.specs.InnerScatterers.{widthsOf, Narrow}
+use Rattle.hrr.specs.InnerScatterers.{widthsOf, digits, NarrowDigits}
 use Rattle.format.specs.Lengths.{recordLength}
 use Rattle.pack_hrr.specs.InnerNarrowed.{narrowedAll}
-use Rattle.hrr.proofs.Patterns.{widths-are, same-widths, still-narrow}
 use Rattle.pack_hrr.proofs.scatterers.Statement.{statement}
 use Rattle.pack_hrr.proofs.scatterers.Tie as tie
 
--- where the function begins, from the place on where the pattern is known
-abbrev start : tie.After-struct-known4 → tie.Start
-start c = c .before .before .before .before .before .before
+each-of-requires : tie.Need-each-of-requires
+each-of-requires c κs =
+    let h = c .before .before .pre .0 in
+    (omega (arith, h .0), omega (arith, h .1), omega (arith, h .2), omega (arith, h .3))
 
--- an arm of the digits m, p, r and d
-module _ (c : tie.After-struct-known4) (m p r d : ℕ) (k : (m ≤ 2) × (p ≤ 2) × (r ≤ 2) × (d ≤ 2)) where
-  abbrev s : Scatterers
-  s = start c .args .s
+-- room for so many of a size that is known
+room : {size each : ℕ} (count long : ℕ) → each ≡ size → count * size ≤ long → count * each ≤ long
+room count long e h = rw e h
 
-  abbrev o : List ℕ
-  o = now (start c .args .o)
+-- an arm where the pattern is n
+module _ (c : tie.After-pattern-of) (n : ℕ) (e : c .pattern-of .result ≡ n) where
+  abbrev start : tie.Start
+  start = c .before .before .before .before
 
-  abbrev count : ℕ
-  count = start c .args .count
+  abbrev each : ℕ
+  each = c .before .each-of .result
 
-  -- scatterers of the widths ws, stored
-  abbrev stored : List ℕ → List ℕ
-  stored ws = sets o 0 (narrowedAll ws count (now (start c .args .x)))
+  -- the widths are its digits, and `each` their sum
+  widths-are : digits n ≡ widthsOf (start .args .s)
+  widths-are = rw e at (c .pattern-of .ensures .0)
 
-  module _ (e : s .magnitude * 1000 + s .phase * 100 + s .range * 10 + s .doppler ≡ m * 1000 + p * 100 + r * 10 + d) where
-    -- its widths, the room for all, and what is stored
-    are : widthsOf s ≡ m ∷ p ∷ r ∷ d ∷ []
-    are = widths-are s m p r d (start c .pre .0) k e
+  sum-is : each ≡ total (digits n)
+  sum-is = c .before .each-of .ensures .0 ∙ ap total (sym widths-are)
 
-    fit : count * total (m ∷ p ∷ r ∷ d ∷ []) ≤ length o
-    fit = rw are at (start c .pre .2)
+  -- what its loop asks
+  asked : NarrowDigits n × (each ≡ total (digits n)) × (start .args .count * recordLength 12 ≤ length (now (start .args .x))) × (start .args .count * each ≤ length (now (start .args .o)))
+  asked = (rw e at (c .pattern-of .ensures .1), sum-is, start .pre .1, room _ _ (c .before .each-of .ensures .0) (start .pre .2))
 
-    laid : {w : List ℕ} → w ≡ stored (m ∷ p ∷ r ∷ d ∷ []) → w ≡ stored (widthsOf s)
-    laid h = h ∙ ap stored (sym are)
-
-    -- the same where the widths are handed on as u
-    module _ (u : Scatterers) (same : u ≡ record { magnitude = m; phase = p; range = r; doppler = d; count = 0 }) where
-      asked : Narrow u × (count * recordLength 12 ≤ length (now (start c .args .x))) × (count * total (widthsOf u) ≤ length o)
-      asked = (
-        still-narrow s m p r d (start c .pre .0) k e u same,
-        start c .pre .1,
-        rw (same-widths s m p r d (start c .pre .0) k e u same) (start c .pre .2),
-      )
-
-      laid-as : {w : List ℕ} → w ≡ stored (widthsOf u) → w ≡ stored (widthsOf s)
-      laid-as h = h ∙ ap stored (same-widths s m p r d (start c .pre .0) k e u same)
-
--- a magnitude by itself, of one byte or of two
-each-requires : tie.Need-each-requires
-each-requires c κs =
-    let at = c .before .before in
-    asked (at .before) 1 0 0 0 (omega arith) (at .match .keys1) _ (c .before .of .ensures)
-
-returns : tie.Need-returns
-returns c =
-    let call = c .before .before in
-    let at = call .before .before .before in
-    laid-as (at .before) 1 0 0 0 (omega arith) (at .match .keys1) _ (call .before .before .of .ensures) (call .each .ensures)
-
-each-requires-2 : tie.Need-each-requires-2
-each-requires-2 c κs =
-    let at = c .before .before in
-    asked (at .before) 2 0 0 0 (omega arith) (at .match .keys2) _ (c .before .of2 .ensures)
-
-returns-2 : tie.Need-returns-2
-returns-2 c =
-    let call = c .before .before in
-    let at = call .before .before .before in
-    laid-as (at .before) 2 0 0 0 (omega arith) (at .match .keys2) _ (call .before .before .of2 .ensures) (call .each2 .ensures)
-
--- all four numbers
-full-scatterers-requires : tie.Need-full-scatterers-requires
-unfolding total
-full-scatterers-requires c κs =
-    let at = c .before in
-    (start (at .before) .pre .1, fit (at .before) 2 2 1 1 (omega arith) (at .match .keys3))
-
-returns-3 : tie.Need-returns-3
-returns-3 c =
-    let call = c .before .before in
-    let at = call .before .before in
-    laid (at .before) 2 2 1 1 (omega arith) (at .match .keys3) (call .full-scatterers .ensures)
+  -- what it stores
+  laid : {w : List ℕ} → w ≡ sets (now (start .args .o)) 0 (narrowedAll (digits n) (start .args .count) (now (start .args .x)))
+      → w ≡ sets (now (start .args .o)) 0 (narrowedAll (widthsOf (start .args .s)) (start .args .count) (now (start .args .x)))
+  laid h = h ∙ ap (λ (ws : List ℕ). sets (now (start .args .o)) 0 (narrowedAll ws (start .args .count) (now (start .args .x)))) widths-are
 
 pub scatterers-spec : {M : Type 1} → statement M
 scatterers-spec =
     tie.close
     (tie.spec
-    (λ c. search needs)
-    (λ c. search needs)
-    (λ c. search needs)
-    (λ c. search needs)
-    (λ c. search needs)
-    (λ c. search needs)
+    each-of-requires
     (λ c κs. search needs)
-    each-requires
-    (λ c κs. search needs)
-    each-requires-2
-    full-scatterers-requires
-    (λ c κs. search needs)
-    (λ c. search needs)
-    returns
-    (λ c. search needs)
-    returns-2
-    (λ c. search needs)
-    returns-3
-    (λ c. search needs)
-    (λ c. search needs))
+    (λ c κs. asked (c .before .before) _ (c .before .match .keys1))
+    (λ c κs. asked (c .before .before) _ (c .before .match .keys2))
+    (λ c κs. asked (c .before .before) _ (c .before .match .keys3))
+    (λ c κs. asked (c .before .before) _ (c .before .match .keys4))
+    (λ c κs. asked (c .before .before) _ (c .before .match .keys5))
+    (λ c κs. asked (c .before .before) _ (c .before .match .keys6))
+    (λ c κs. asked (c .before .before) _ (c .before .match .keys7))
+    (λ c κs. asked (c .before .before) _ (c .before .match .keys8))
+    (λ c κs. asked (c .before .before) _ (c .before .match .keys9))
+    (λ c κs. asked (c .before .before) _ (c .before .match .keys10))
+    (λ c κs. asked (c .before .before) _ (c .before .match .keys11))
+    (λ c κs. asked (c .before .before) _ (c .before .match .keys12))
+    (λ c κs. asked (c .before .before) _ (c .before .match .keys13))
+    (λ c κs. asked (c .before .before) _ (c .before .match .keys14))
+    (λ c κs. asked (c .before .before) _ (c .before .match .keys15))
+    (λ c κs. asked (c .before .before) _ (c .before .match .keys16))
+    (λ c κs. asked (c .before .before) _ (c .before .match .keys17))
+    (λ c κs. asked (c .before .before) _ (c .before .match .keys18))
+    (λ c κs. asked (c .before .before) _ (c .before .match .keys19))
+    (λ c κs. asked (c .before .before) _ (c .before .match .keys20))
+    (λ c κs. asked (c .before .before) _ (c .before .match .keys21))
+    (λ c κs. asked (c .before .before) _ (c .before .match .keys22))
+    (λ c κs. asked (c .before .before) _ (c .before .match .keys23))
+    (λ c κs. asked (c .before .before) _ (c .before .match .keys24))
+    (λ c κs. asked (c .before .before) _ refl)
+    (λ c. search needs) (λ c. let l = c .before .before in laid (l .before .before .before) _ (l .before .before .match .keys1) (l .each-scatterer .ensures))
+    (λ c. search needs) (λ c. let l = c .before .before in laid (l .before .before .before) _ (l .before .before .match .keys2) (l .each-scatterer2 .ensures))
+    (λ c. search needs) (λ c. let l = c .before .before in laid (l .before .before .before) _ (l .before .before .match .keys3) (l .each-scatterer3 .ensures))
+    (λ c. search needs) (λ c. let l = c .before .before in laid (l .before .before .before) _ (l .before .before .match .keys4) (l .each-scatterer4 .ensures))
+    (λ c. search needs) (λ c. let l = c .before .before in laid (l .before .before .before) _ (l .before .before .match .keys5) (l .each-scatterer5 .ensures))
+    (λ c. search needs) (λ c. let l = c .before .before in laid (l .before .before .before) _ (l .before .before .match .keys6) (l .each-scatterer6 .ensures))
+    (λ c. search needs) (λ c. let l = c .before .before in laid (l .before .before .before) _ (l .before .before .match .keys7) (l .each-scatterer7 .ensures))
+    (λ c. search needs) (λ c. let l = c .before .before in laid (l .before .before .before) _ (l .before .before .match .keys8) (l .each-scatterer8 .ensures))
+    (λ c. search needs) (λ c. let l = c .before .before in laid (l .before .before .before) _ (l .before .before .match .keys9) (l .each-scatterer9 .ensures))
+    (λ c. search needs) (λ c. let l = c .before .before in laid (l .before .before .before) _ (l .before .before .match .keys10) (l .each-scatterer10 .ensures))
+    (λ c. search needs) (λ c. let l = c .before .before in laid (l .before .before .before) _ (l .before .before .match .keys11) (l .each-scatterer11 .ensures))
+    (λ c. search needs) (λ c. let l = c .before .before in laid (l .before .before .before) _ (l .before .before .match .keys12) (l .each-scatterer12 .ensures))
+    (λ c. search needs) (λ c. let l = c .before .before in laid (l .before .before .before) _ (l .before .before .match .keys13) (l .each-scatterer13 .ensures))
+    (λ c. search needs) (λ c. let l = c .before .before in laid (l .before .before .before) _ (l .before .before .match .keys14) (l .each-scatterer14 .ensures))
+    (λ c. search needs) (λ c. let l = c .before .before in laid (l .before .before .before) _ (l .before .before .match .keys15) (l .each-scatterer15 .ensures))
+    (λ c. search needs) (λ c. let l = c .before .before in laid (l .before .before .before) _ (l .before .before .match .keys16) (l .each-scatterer16 .ensures))
+    (λ c. search needs) (λ c. let l = c .before .before in laid (l .before .before .before) _ (l .before .before .match .keys17) (l .each-scatterer17 .ensures))
+    (λ c. search needs) (λ c. let l = c .before .before in laid (l .before .before .before) _ (l .before .before .match .keys18) (l .each-scatterer18 .ensures))
+    (λ c. search needs) (λ c. let l = c .before .before in laid (l .before .before .before) _ (l .before .before .match .keys19) (l .each-scatterer19 .ensures))
+    (λ c. search needs) (λ c. let l = c .before .before in laid (l .before .before .before) _ (l .before .before .match .keys20) (l .each-scatterer20 .ensures))
+    (λ c. search needs) (λ c. let l = c .before .before in laid (l .before .before .before) _ (l .before .before .match .keys21) (l .each-scatterer21 .ensures))
+    (λ c. search needs) (λ c. let l = c .before .before in laid (l .before .before .before) _ (l .before .before .match .keys22) (l .each-scatterer22 .ensures))
+    (λ c. search needs) (λ c. let l = c .before .before in laid (l .before .before .before) _ (l .before .before .match .keys23) (l .each-scatterer23 .ensures))
+    (λ c. search needs) (λ c. let l = c .before .before in laid (l .before .before .before) _ (l .before .before .match .keys24) (l .each-scatterer24 .ensures))
+    (λ c. search needs) (λ c. let l = c .before .before in laid (l .before .before .before) _ refl (l .each-scatterer25 .ensures)))

@@ -1,69 +1,61 @@
--- `sheet_walk::are_scatterers` meets its contract: the records passed so far are scatterers.
+-- `sheet_walk::are_scatterers` meets its contract: the fours and the few behind them are all.
 -- Assumes nothing.
 use borrow.Author.Needs.{needs}
-use mathlib.Core.Path.{_≡_, refl, sym, ap, _∙_}
+use borrow.Author.Tests.{not-true, not-false}
+use mathlib.Core.Path.{_≡_, sym, ap, _∙_}
 use mathlib.Core.Bool.{true≢false}
-use Prim.Native.Nat.{ℕ, _+_, _-_, _*_, _≤_, _<_}
+use mathlib.Core.List.{List}
+use Prim.Native.Nat.{ℕ, _+_, _-_, _*_, _/_, _%_}
 use native.Mathlib.Omega.{arith}
 use denote.Ref.{now}
-use lib.ListN.{length, getD}
+use lib.ListN.{length, take, drop}
+use Rattle.octets.proofs.Parts.{tail-is}
 use Rattle.format.specs.Lengths.{recordLength}
-use Rattle.sheet_walk.proofs.Runs.{one-more}
+use Rattle.sheet_walk.proofs.Runs.{joined, parted}
 use Rattle.sheet_walk.proofs.are_scatterers.Statement.{statement}
 use Rattle.sheet_walk.proofs.are_scatterers.Tie as tie
 
-abbrev Inv-loop : tie.InvT-loop
-Inv-loop x count at₀ i₀ at i = (count * recordLength 12 ≤ length x) × (i ≤ count) × (at ≡ i * recordLength 12) × ((j : ℕ) → j < i → getD x (j * recordLength 12) 0 ≡ 12)
+-- the fours and the few
+all-of : (count : ℕ) → count / 4 * 4 + count % 4 ≡ count
+all-of count = omega arith
 
-abbrev μ-loop : tie.MeasureT-loop
-μ-loop x count at₀ i₀ at i = count - i
+-- the few are behind the fours
+rest : (x : List ℕ) {at to : ℕ} → at ≡ to → take (length x - at) (drop at x) ≡ drop to x
+rest x {at} e = tail-is at x ∙ ap (λ (k : ℕ). drop k x) e
 
-returns : tie.Need-returns Inv-loop μ-loop
+returns : tie.Need-returns
 returns c = (λ e. absurd (true≢false (sym e)), λ b. absurd (omega (arith, b .long, c .if1 .taken)))
 
-loop-holds : tie.Need-loop-holds Inv-loop μ-loop
-loop-holds c = (omega (arith, c .if1 .left), omega arith, omega arith, λ j h. absurd (omega arith))
-
--- the record in a turn lies within x
-within : (c : tie.After-shared-slice-known Inv-loop μ-loop) → c .before .before .loop .at + recordLength 12 ≤ length (now (c .before .before .before .before .args .x))
-within c =
-    let l = c .before .before .loop in
-    omega (arith, l .inv .0, l .inv .2, c .before .loop-test .taken)
-
-read-kind : tie.Need-shared-slice-read-if2 Inv-loop μ-loop
-read-kind c = omega (arith, within c)
-
-returns-2 : tie.Need-returns-2 Inv-loop μ-loop
+returns-2 : tie.Need-returns-2
 returns-2 c =
-    let l = c .before .before .before .loop in
-    let x = now (c .before .before .before .before .before .args .x) in
-    (λ e. absurd (true≢false (sym e)), λ b. absurd (c .if2 .taken (ap (λ (k : ℕ). getD x k 0) (l .inv .2) ∙ b .kinds (l .i) (omega (arith, c .before .before .loop-test .taken)))))
+    let s = c .before .before .before .before in
+    let n = s .args .count in (
+      λ e. absurd (true≢false (sym e)),
+      λ b. absurd (true≢false (sym (c .before .are-fours .ensures .1 (parted (n / 4 * 4) (n % 4) (now (s .args .x)) (rw (sym (all-of n)) at b) .0)) ∙ not-true _ (c .if2 .taken))),
+    )
 
-add-at : tie.Need-add-at Inv-loop μ-loop
-add-at c = omega (arith, within (c .before), c .before .before .before .before .before .good)
-
-loop-again : tie.Need-loop-again Inv-loop μ-loop
-loop-again c =
-    let l = c .before .before .before .loop in
-    (l .inv .0, omega (arith, c .before .before .loop-test .taken), omega (arith, l .inv .2), one-more (now (c .before .before .before .before .before .args .x)) (l .i) (l .at) (l .inv .2) (l .inv .3) (c .if2 .left))
-
-returns-3 : tie.Need-returns-3 Inv-loop μ-loop
+returns-3 : tie.Need-returns-3
 returns-3 c =
-    let l = c .before .loop in
-    (λ _. record { long = l .inv .0; kinds = λ j h. l .inv .3 j (omega (arith, l .inv .1, c .loop-test .left)) }, λ _. refl)
+    let s = c .before .before .before .before .before .before in
+    let n = s .args .count in
+    let x = now (s .args .x) in
+    let place : n / 4 * (4 * recordLength 12) ≡ n / 4 * 4 * recordLength 12 = omega arith in
+    let few = c .are-few .ensures in
+    let tail = rest x place in (
+      λ e. rw (all-of n) at (joined (n / 4 * 4) (n % 4) x (c .before .before .before .are-fours .ensures .0 (not-false _ (c .before .before .if2 .left))) (rw tail at (few .0 e))),
+      λ b. few .1 (rw tail (parted (n / 4 * 4) (n % 4) x (rw (sym (all-of n)) at b) .1)),
+    )
 
 pub are-scatterers-spec : {M : Type 1} → statement M
 are-scatterers-spec =
     tie.close
     (tie.spec
-    Inv-loop
-    μ-loop
     returns
-    loop-holds
-    read-kind
+    (λ c κs. search needs)
     returns-2
-    add-at
     (λ c. search needs)
     (λ c. search needs)
-    loop-again
+    (λ c. search needs)
+    (λ c. search needs)
+    (λ c κs. search needs)
     returns-3)

@@ -7,8 +7,11 @@ use denote.Ref.{now}
 use lib.ListN.{drop, length-drop}
 use Rattle.octets.specs.Layout.{total}
 use Rattle.octets.proofs.Parts.{tail-is}
-use Rattle.hrr.specs.Hrr.{hrrMask}
+use Rattle.mask.specs.Fields.{d32}
+use Rattle.hrr.specs.declared.Scatterers.{Scatterers}
+use Rattle.hrr.specs.Hrr.{hrrMask, indexWidth}
 use Rattle.hrr.specs.InnerScatterers.{scatterersOf, speltOf}
+use Rattle.hrr.proofs.Numbers.{taken-most}
 use Rattle.format.specs.Sheet.{bodyLength}
 use Rattle.sheet_walk.proofs.scatterers_behind.Statement.{statement}
 use Rattle.sheet_walk.proofs.scatterers_behind.Tie as tie
@@ -32,16 +35,17 @@ scatterers-of-requires c κs = rw (tail-is 5 (now (c .before .before .before .ar
 returns : tie.Need-returns
 returns c =
     let all = c .before .before .before .before in
-    let mask = all .before .before in
-    let b = now (mask .before .before .args .b) in
+    let masked = all .before .before in
+    let b = now (masked .before .before .args .b) in
+    let mask = hrrMask b in
     let m = c .before .before .before .spelt .ensures in
     let p = c .before .before .spelt2 .ensures in
     let r = c .before .spelt3 .ensures in
     let d = c .spelt4 .ensures in
-    let is : all .scatterers-of .result ≡ scatterersOf (hrrMask b) (drop 5 b) = all .scatterers-of .ensures .0 ∙ rw (mask .mask-of .ensures, tail-is 5 b) in (
+    let is : all .scatterers-of .result ≡ scatterersOf (hrrMask b) (drop 5 b) = all .scatterers-of .ensures .0 ∙ rw (masked .mask-of .ensures, tail-is 5 b) in (
       rw (m, p, r, d) (ap speltOf is),
       all .scatterers-of .ensures .1 .4,
-      (omega arith, omega arith, omega arith, omega arith),
+      (omega arith, omega arith, omega (arith, r, ap (λ (k : Scatterers). k .range) is, taken-most mask (d32 3) indexWidth), omega (arith, d, ap (λ (k : Scatterers). k .doppler) is, taken-most mask (d32 4) indexWidth)),
     )
 
 pub scatterers-behind-spec : {M : Type 1} → statement M

@@ -30,12 +30,12 @@ module _ (s : tie.Start) where
     both = hrr-next (now (s .args .leader)) (s .args .kind) (now (s .args .b)) (now (s .args .rest)) e
 
     room : length first + length behind ≤ length (now (s .args .o))
-    room = omega (arith, s .pre .2, length-append first behind, ap length both)
+    room = omega (arith, s .pre .1, length-append first behind, ap length both)
 
 put-record-requires : tie.Need-put-record-requires
 put-record-requires c κs =
     let s = c .before .before .before .before .before in
-    (s .pre .0, omega (arith, next-length (now (s .args .leader)) (s .args .kind) (now (s .args .b)) (now (s .args .rest)), s .pre .2))
+    (s .pre .0 .0, omega (arith, next-length (now (s .args .leader)) (s .args .kind) (now (s .args .b)) (now (s .args .rest)), s .pre .1))
 
 sub-put-scatterers : tie.Need-sub-put-scatterers
 sub-put-scatterers c =
@@ -53,8 +53,8 @@ put-scatterers-requires c κs =
     let put = c .before .before .before .before in
     let s = c .before .before .before .before .before .before .before .before .before .before in
     let o = put .put-record .last .1 .1 .1 .0 in (
-      s .pre .0 .0 ∙ ap bodyLength e,
-      s .pre .1 e,
+      s .pre .0 .0 .0 ∙ ap bodyLength e,
+      s .pre .0 .1 e,
       rw (tail-is (put .put-record .result) o, length-drop) (omega (arith, room s e, put .put-record .ensures .0, put .put-record .kept .1 .1 .1 .0)),
     )
 

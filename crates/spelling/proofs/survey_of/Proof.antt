@@ -5,7 +5,6 @@ use borrow.Author.Needs.{needs}
 use native.Mathlib.Omega.{arith}
 use mathlib.Core.Path.{sym, _∙_}
 use Prim.Native.Nat.{_+_, _-_, _*_, _≤_, _<_}
-use borrow.Author.Tests.{eq-eqb, ne-eqb}
 use denote.Ref.{now}
 use lib.ListN.{length, drop, length-drop}
 use Rattle.format.specs.Lengths.{recordLength}
@@ -15,10 +14,10 @@ use Rattle.spelling.proofs.survey_of.Statement.{statement}
 use Rattle.spelling.proofs.survey_of.Tie as tie
 
 abbrev Inv-loop : tie.InvT-loop
-Inv-loop x start at₀ follower₀ left₀ sum₀ at follower left sum = Walked x at follower left sum
+Inv-loop x at₀ follower₀ left₀ sum₀ at follower left sum = Walked x at follower left sum
 
 abbrev μ-loop : tie.MeasureT-loop
-μ-loop x start at₀ follower₀ left₀ sum₀ at follower left sum = length x - at
+μ-loop x at₀ follower₀ left₀ sum₀ at follower left sum = length x - at
 
 returns : tie.Need-returns Inv-loop μ-loop
 returns c = sym (no-header (now (c .before .before .before .args .x)) (sym (c .before .header-end .ensures) ∙ c .if1 .taken))
@@ -38,13 +37,7 @@ returns-3 : tie.Need-returns-3 Inv-loop μ-loop
 returns-3 c =
     let l = c .before .before .before .before .loop in
     let e = at-place _ _ (c .before .before .before .record-at .ensures) (c .before .enum-told2 .given .1) in
-    sym (at-end _ _ _ _ _ (l .inv) e ∙ rw (eq-eqb (l .left) 0 (c .if2 .taken)))
-
-returns-4 : tie.Need-returns-4 Inv-loop μ-loop
-returns-4 c =
-    let l = c .before .before .before .before .loop in
-    let e = at-place _ _ (c .before .before .before .record-at .ensures) (c .before .enum-told2 .given .1) in
-    sym (at-end _ _ _ _ _ (l .inv) e ∙ rw (ne-eqb (l .left) 0 (c .if2 .left)))
+    c .ended .ensures ∙ sym (at-end _ _ _ _ _ (l .inv) e)
 
 -- the record in a turn
 here : (c : tie.After-known-told Inv-loop μ-loop)
@@ -52,8 +45,8 @@ here : (c : tie.After-known-told Inv-loop μ-loop)
     WholeAt (now (c .before .before .before .before .before .before .before .before .args .x)) (c .before .before .before .before .loop .at) (k .0) (k .1 .0)
 here c = at-place _ _ (c .before .before .before .record-at .ensures) (c .before .kind .given .1)
 
-returns-5 : tie.Need-returns-5 Inv-loop μ-loop
-returns-5 c = sym (again _ _ _ _ _ (c .before .before .before .before .before .loop .inv) _ _ (here (c .before)) (c .if3 .taken))
+returns-4 : tie.Need-returns-4 Inv-loop μ-loop
+returns-4 c = sym (again _ _ _ _ _ (c .before .before .before .before .before .loop .inv) _ _ (here (c .before)) (c .if2 .taken))
 
 add-from : tie.Need-add-from Inv-loop μ-loop
 add-from c = omega (arith, here (c .before) .within, here (c .before) .fits)
@@ -72,13 +65,13 @@ count-requires c κs =
     let f = here (c .before .before) .formed in
     (f .length-is, omega (arith, f .kind, f .length-is), c .before .before .before .before .before .before .loop .inv .short)
 
-returns-6 : tie.Need-returns-6 Inv-loop μ-loop
-returns-6 c =
+returns-5 : tie.Need-returns-5 Inv-loop μ-loop
+returns-5 c =
     let counted = c .before .before .before in
     let turning = counted .before .before in
     let l = turning .before .before .before .before .before .loop in
     c .incomplete .ensures
-    ∙ sym (onward _ _ _ _ _ (l .inv) _ _ (here (turning .before)) (turning .if3 .left) (sym (c .before .enum-told3 .given .1) ∙ counted .count .ensures))
+    ∙ sym (onward _ _ _ _ _ (l .inv) _ _ (here (turning .before)) (turning .if2 .left) (sym (c .before .enum-told3 .given .1) ∙ counted .count .ensures))
 
 -- what is kept behind the record
 behind : (c : tie.After-known-told2 Inv-loop μ-loop) → let f = c .before .f .given .0 in
@@ -87,7 +80,7 @@ behind c =
     let counted = c .before .before .before in
     let turning = counted .before .before in
     let l = turning .before .before .before .before .before .loop in
-    turn _ _ _ _ _ (l .inv) _ _ (here (turning .before)) (turning .if3 .left) _ _ _ (sym (c .before .f .given .1) ∙ counted .count .ensures)
+    turn _ _ _ _ _ (l .inv) _ _ (here (turning .before)) (turning .if2 .left) _ _ _ (sym (c .before .f .given .1) ∙ counted .count .ensures)
 
 loop-less : tie.Need-loop-less Inv-loop μ-loop
 loop-less c =
@@ -136,10 +129,10 @@ survey-of-spec =
     enum-told
     returns-2
     (λ c. search needs)
+    (λ c κs. search needs)
     returns-3
-    returns-4
     (λ c. search needs)
-    returns-5
+    returns-4
     add-from
     sub-count
     part-count-start
@@ -147,7 +140,7 @@ survey-of-spec =
     count-requires
     (λ c. search needs)
     (λ c κs. search needs)
-    returns-6
+    returns-5
     (λ c. search needs)
     loop-less
     loop-again

@@ -1,14 +1,16 @@
--- `pack_hrr::put_two` meets its contract. Two stores in a row are a run of stores, by computation.
+-- `words::put2` meets its contract. Two stores in a row are a run of stores, by computation.
 -- Assumes nothing.
 use native.Mathlib.Omega.{arith}
 use native.Mathlib.Numerals.{towards-suc}
 use lib.ListN.{length-set}
 use borrow.Author.Needs.{needs}
-use Rattle.pack_hrr.proofs.put_two.Statement.{statement}
-use Rattle.pack_hrr.proofs.put_two.Tie as tie
+use Rattle.words.specs.InnerWords.{low}
+use Rattle.words.proofs.put2.Statement.{statement}
+use Rattle.words.proofs.put2.Tie as tie
 
-pub put-two-spec : {M : Type 1} → statement M
-put-two-spec =
+pub put2-spec : {M : Type 1} → statement M
+unfolding low
+put2-spec =
     tie.close
     (tie.spec
     (λ c. search needs)
