@@ -92,7 +92,7 @@ pub fn copy32(s: &[u8], p: usize, o: &mut [u8], q: usize)
 }
 
 // All of s, which has from 8 to 16 bytes: its first eight, and its last eight, which may overlap them. The next three are alike. Each serves
-// every length from its one number to its other, and of a length that the compiler knows nothing is left but moves of eight bytes.
+// every length from its one number to its other, and of a length that the compiler knows nothing is left but moves of eight bytes and more.
 pub fn copy8_to_16(s: &[u8], o: &mut [u8], q: usize)
     requires { ⌜ RoomForAll 8 16 (now s) (now o) q ⌝ }
     ensures { λ _. ⌜ now (o .exit) ≡ sets (now (o .entry)) q (now (s .entry)) ⌝ }
@@ -102,13 +102,13 @@ pub fn copy8_to_16(s: &[u8], o: &mut [u8], q: usize)
     copy8(s, last, o, q + last);
 }
 
-pub fn copy16_to_24(s: &[u8], o: &mut [u8], q: usize)
-    requires { ⌜ RoomForAll 16 24 (now s) (now o) q ⌝ }
+pub fn copy16_to_32(s: &[u8], o: &mut [u8], q: usize)
+    requires { ⌜ RoomForAll 16 32 (now s) (now o) q ⌝ }
     ensures { λ _. ⌜ now (o .exit) ≡ sets (now (o .entry)) q (now (s .entry)) ⌝ }
 {
-    let last = s.len() - 8;
+    let last = s.len() - 16;
     copy16(s, 0, o, q);
-    copy8(s, last, o, q + last);
+    copy16(s, last, o, q + last);
 }
 
 pub fn copy32_to_40(s: &[u8], o: &mut [u8], q: usize)
@@ -130,7 +130,7 @@ pub fn copy64_to_72(s: &[u8], o: &mut [u8], q: usize)
     copy8(s, last, o, q + last);
 }
 
-// All of s, byte by byte: for runs of any length, from the bytes of a last piece to a whole packet.
+// All of s, byte by byte: for runs of any length.
 pub fn copy_all(s: &[u8], o: &mut [u8], q: usize)
     requires { ⌜ q + length (now s) ≤ length (now o) ⌝ }
     ensures { λ _. ⌜ now (o .exit) ≡ sets (now (o .entry)) q (now (s .entry)) ⌝ }
@@ -138,6 +138,22 @@ pub fn copy_all(s: &[u8], o: &mut [u8], q: usize)
     for i in 0..s.len() {
         o[q + i] = s[i];
     }
+}
+
+// All of s, which has at most 32 bytes: as long as a piece. Only fewer than eight go byte by byte.
+pub fn copy_to_32(s: &[u8], o: &mut [u8], q: usize)
+    requires { ⌜ RoomForAll 0 32 (now s) (now o) q ⌝ }
+    ensures { λ _. ⌜ now (o .exit) ≡ sets (now (o .entry)) q (now (s .entry)) ⌝ }
+{
+    if 16 <= s.len() {
+        copy16_to_32(s, o, q);
+        return;
+    }
+    if 8 <= s.len() {
+        copy8_to_16(s, o, q);
+        return;
+    }
+    copy_all(s, o, q);
 }
 
 pub fn clear1(o: &mut [u8], q: usize)

@@ -22,3 +22,4 @@ pub mod Bound
 pub mod Longitudes
 pub mod Named
 pub mod OneLine
+pub mod Pieces

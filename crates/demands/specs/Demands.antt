@@ -2,11 +2,12 @@
 -- `write sheet lent` are the answer and what the lent memory holds afterwards (crate format, specs/Reader.antt and specs/Writer.antt).
 -- The quoted words are the demands'.
 -- Assumes nothing.
-use Prim.Native.Nat.{ℕ, _≤_}
+use Prim.Native.Nat.{ℕ, _*_, _≤_}
 use mathlib.Core.Path.{_≡_}
 use mathlib.Core.Bool.{true, false, cond}
 use mathlib.Core.List.{List}
 use lib.ListN.{length, getD, take}
+use lib.Seq.{sets}
 use Rattle.octets.specs.Octets.{Bytes}
 use Rattle.octets.specs.Layout.{over}
 use Rattle.distinct.specs.Distinct.{isAmong, withoutRepeats, hasRepeats}
@@ -16,6 +17,8 @@ use Rattle.format.specs.declared.Check.the-variants.{Passed, Failed}
 use Rattle.format.specs.declared.Answer.the-variants.{Accepted, Refused}
 use Rattle.format.specs.Packet.{version, Segment}
 use Rattle.format.specs.Dwell.{Pair, isSamePair}
+use Rattle.format.specs.Sheet.{Record, pieceCount, piecesOf, recordBytes}
+use Rattle.format.specs.Lengths.{recordLength}
 use Rattle.format.specs.Answer.{Outcome, outcome}
 use Rattle.format.specs.Rows.{isNaming, firstRow}
 use Rattle.format.specs.declared.New.{New}
@@ -29,6 +32,7 @@ use Rattle.demands.specs.Filled.{filledIn}
 use Rattle.demands.specs.Places.{isWithheldAt}
 use Rattle.demands.specs.Counts.{count, isKind, isLeader, pairsOn}
 use Rattle.demands.specs.Names.{namesAreLines}
+use Rattle.demands.specs.Pieces.{Carry}
 
 -- an accepted call, and what it leaves
 abbrev pub accepted : ℕ → ℕ → ℕ → ℕ → List ℕ → Outcome
@@ -115,6 +119,17 @@ pub record NamesOnOneLine : Type 0 where
   pub not-written : (x lent : List ℕ) → namesAreLines (listed x .records) ≡ false → isAccepted (write x lent .answer) ≡ false
   pub refused-with-19 : (x lent : List ℕ) → namesAreLines (listed x .records) ≡ false → firstRow (take 2 (sheetRows x)) ≡ Passed
       → write x lent ≡ refused 19 0 0 lent
+
+-- ---- Document 02, A5: "The filling promises, for any text and a sheet part long enough, exactly the pieces that document 01 gives, and
+-- every byte behind them unchanged." The contract of `piece_records` (crate records) says that it stores `recordBytes (piecesOf text)`
+-- from the first place of the part on. "exactly": these pieces carry the text, no other records do, and they take just the room that
+-- the contract asks for. "unchanged": what is stored stands at the part's front, and behind it is what the part held there.
+pub record PiecesFilled : Type 0 where
+  pub carry : (text : List ℕ) → Carry (piecesOf text) text
+  pub no-others : (text : List ℕ) (rs : List Record) → Carry rs text → rs ≡ piecesOf text
+  pub take-room : (text : List ℕ) → length (recordBytes (piecesOf text)) ≡ pieceCount (length text) * recordLength 6
+  pub behind-unchanged : (text lent : List ℕ) → pieceCount (length text) * recordLength 6 ≤ length lent
+      → sets lent 0 (recordBytes (piecesOf text)) ≡ over (recordBytes (piecesOf text)) lent
 
 -- ---- Demand 3
 

@@ -5,3 +5,4 @@ pub mod Counts
 pub mod Demands
 pub mod Trials
 pub mod Names
+pub mod Pieces

@@ -1,8 +1,8 @@
 // Whether a sheet is the one that a packet reads to. The records are laid out a few at a time in a small window, and compared there: no
-// array as long as the sheet is needed, nor its clearing.
+// array as long as the sheet is needed, nor its clearing. Full pieces of longer segments are not laid out, but compared where they stand.
 ghost use mathlib.Core.Path.{_≡_};
 ghost use mathlib.Core.Bool.{cond};
-ghost use mathlib.Core.List.{_++_};
+ghost use mathlib.Core.List.{[], _∷_, _++_};
 ghost use Prim.Native.Nat.{_+_, _*_, _≤_, min};
 ghost use lib.Dec.{eqb};
 ghost use lib.ListN.{length, take};
@@ -11,7 +11,7 @@ ghost use Rattle.hrr.specs.Hrr.{hrrMask, hrrFields, scattererCount};
 ghost use Rattle.hrr.specs.InnerScatterers.{widthsOf, Narrow};
 ghost use Rattle.format.specs.declared.Check.the-variants.{Passed};
 ghost use Rattle.format.specs.Dwell.{targetCount};
-ghost use Rattle.format.specs.Sheet.{targetRecords, dwellRecords, scattererRecords, hrrRecords, piecesOf, pieceCount, opaqueRecords, recordBytes};
+ghost use Rattle.format.specs.Sheet.{targetRecords, dwellRecords, scattererRecords, hrrRecords, pieceRecord, pieceRecords, piecesOf, pieceCount, opaqueRecords, recordBytes};
 ghost use Rattle.format.specs.Lengths.{recordLength};
 ghost use Rattle.format.specs.Rows.{firstRow, targetsRows, dwellRows, hrrRows};
 ghost use Rattle.format.specs.Reader.{sheet};
@@ -21,18 +21,16 @@ ghost use Rattle.segments.specs.InnerWalk.{Checked, bytesOf, CheckedAll, Checke
 ghost use Rattle.readback.specs.InnerWindow.{windowLength};
 
 // The bytes of the window that records are laid out in. The loop that compares takes 32 bytes a step: as many scatterers of 9 bytes as fit, 64,
-// fill whole steps, and so do as many pieces of 34, 16 in 544 bytes. Nothing is left over then to be compared byte by byte.
+// fill whole steps. Nothing is left over then to be compared byte by byte.
 const WINDOW: usize = 576;
 
-// How many targets, scatterers and pieces it has room for.
+// How many targets and scatterers it has room for.
 const TARGETS: usize = WINDOW / format::TargetRecord::WHOLE;
 
 const SCATTERERS: usize = WINDOW / format::ScattererRecord::WHOLE;
 
-const PIECES: usize = WINDOW / format::PieceRecord::WHOLE;
-
-// The bytes that so many pieces carry.
-const CARRIED: usize = PIECES * format::PieceRecord::FULL;
+// Where the bytes of a piece begin in its record.
+const BYTES: usize = 1 + format::PieceRecord::BYTES;
 
 // 0 where two bytes are equal, else 1.
 fn differs(x: u8, y: u8) -> u8
@@ -146,25 +144,47 @@ fn same_hrr(b: &[u8], x: &[u8], window: &mut [u8]) -> bool
     )
 }
 
-// The pieces that carry b: as many at a time as the window has room for.
+// A full piece, which x begins with: its kind and its count, and the 32 bytes that b begins with. They are compared where they stand.
+fn same_piece(b: &[u8], x: &[u8]) -> bool
+    requires { ⌜ (32 ≤ length (now b)) × (recordLength 6 ≤ length (now x)) ⌝ }
+    ensures { λ r. ⌜ r ≡ isSame (recordBytes (pieceRecord (now (b .entry)) ∷ [])) (take (recordLength 6) (now (x .entry))) ⌝ }
+{
+    sheet_walk::is_full_piece(x, 0)
+        && same(
+            &b[..format::PieceRecord::FULL],
+            &x[BYTES..format::PieceRecord::WHOLE],
+        )
+}
+
+// So many full pieces, which x begins with.
+fn same_full_pieces(b: &[u8], count: usize, x: &[u8]) -> bool
+    requires { ⌜ (count * 32 ≤ length (now b)) × (count * recordLength 6 ≤ length (now x)) ⌝ }
+    ensures { λ r. ⌜ r ≡ isSame (recordBytes (pieceRecords count (now (b .entry)))) (take (count * recordLength 6) (now (x .entry))) ⌝ }
+{
+    for i in 0..count {
+        if !same_piece(
+            &b[i * format::PieceRecord::FULL..],
+            &x[i * format::PieceRecord::WHOLE..],
+        ) {
+            return false;
+        }
+    }
+    true
+}
+
+// The pieces that carry b: the full ones, and the last, which is laid out in the window.
 fn same_pieces(b: &[u8], x: &[u8], window: &mut [u8]) -> bool
     requires { ⌜ (pieceCount (length (now b)) * recordLength 6 ≡ length (now x)) × (windowLength ≤ length (now window)) ⌝ }
     ensures { λ r. ⌜ r ≡ isSame (recordBytes (piecesOf (now (b .entry)))) (now (x .entry)) ⌝ }
 {
-    let mut at = 0;
-    let mut q = 0;
-    while at < b.len() {
-        let k = least(CARRIED, b.len() - at);
-        let end = at + k;
-        let to = q + segments::pieces_length(k);
-        records::piece_records(&b[at..end], window);
-        if !is_front(window, &x[q..to]) {
-            return false;
-        }
-        at = end;
-        q = to;
+    let full = b.len() / format::PieceRecord::FULL;
+    if !same_full_pieces(b, full, x) {
+        return false;
     }
-    true
+    let at = full * format::PieceRecord::FULL;
+    let q = full * format::PieceRecord::WHOLE;
+    records::piece_records(&b[at..], window);
+    is_front(window, &x[q..])
 }
 
 // A record that stands at the front of the window, and behind it the pieces that carry b.

@@ -89,7 +89,7 @@ pieces-last count i b o w h e = let n : count - i ≡ 0 = omega arith in rw n at
 -- ---- all the pieces of a body
 
 -- the first j pieces, and those behind them
-pieces-append : (j k : ℕ) (b : List ℕ) → pieceRecords (j + k) b ≡ pieceRecords j b ++ pieceRecords k (drop (j * 32) b)
+pub pieces-append : (j k : ℕ) (b : List ℕ) → pieceRecords (j + k) b ≡ pieceRecords j b ++ pieceRecords k (drop (j * 32) b)
 unfolding pieceRecords
 pieces-append = records-append pieceRecord pieceRecords 32 (recordLength 6) piece-step length-piece (λ b. refl)
 
@@ -114,30 +114,3 @@ pub pieces-all-full : (b o : List ℕ) {m : List ℕ}
     → length b ≤ length b / 32 * 32 → m ≡ sets o 0 (recordBytes (pieceRecords (length b / 32) b)) → m ≡ sets o 0 (recordBytes (pieceRecords (pieceCount (length b)) b))
 unfolding pieceCount
 pieces-all-full b o h hm = let n : (length b + 31) / 32 ≡ length b / 32 = omega arith in rw n hm
-
--- ---- the pieces of a front and of what is behind it
-
--- a piece is of the first 32 bytes alone
-piece-front : (m : ℕ) (b : List ℕ) → pieceRecord (take (32 + m) b) ≡ pieceRecord b
-unfolding pieceRecord
-piece-front m b =
-    let n : min 32 (length (take (32 + m) b)) ≡ min 32 (length b) = omega (arith, length-take (32 + m) b) in
-    ap₂ (λ (x : ℕ) (y : List ℕ). recordOf 6 (x ∷ y)) n (take-take 32 (32 + m) b (omega arith))
-
--- so full pieces are of the bytes that they have
-pieces-front : (n : ℕ) (b : List ℕ) → pieceRecords n (take (n * 32) b) ≡ pieceRecords n b
-unfolding pieceRecords
-pieces-front zero b = refl
-pieces-front (suc n) b =
-    let e : suc n * 32 ≡ 32 + n * 32 = omega arith in
-    ap (λ (k : ℕ). pieceRecords (suc n) (take k b)) e
-    ∙ ap₂ (λ (x : Record) (xs : List Record). x ∷ xs) (piece-front (n * 32) b) (ap (pieceRecords n) (sym (part-is 32 (n * 32) b)) ∙ pieces-front n (drop 32 b))
-
--- where the front fills its pieces
-pub pieces-split : (n : ℕ) (b : List ℕ) → n * 32 ≤ length b → piecesOf b ≡ piecesOf (take (n * 32) b) ++ piecesOf (drop (n * 32) b)
-unfolding pieceCount
-pieces-split n b h =
-    let f : pieceCount (length (take (n * 32) b)) ≡ n = omega (arith, length-take-le (n * 32) b h) in
-    let w : pieceCount (length b) ≡ n + pieceCount (length (drop (n * 32) b)) = omega (arith, length-drop (n * 32) b) in
-    ap (λ (k : ℕ). pieceRecords k b) w ∙ pieces-append n (pieceCount (length (drop (n * 32) b))) b
-    ∙ sym (ap (λ (rs : List Record). rs ++ piecesOf (drop (n * 32) b)) (ap (λ (k : ℕ). pieceRecords k (take (n * 32) b)) f ∙ pieces-front n b))

@@ -82,7 +82,7 @@ pub fn location_records(b: &[u8], o: &mut [u8])
     ensures { λ _. ⌜ now (o .exit) ≡ sets (now (o .entry)) 0 (recordBytes (locationRecords (now (b .entry)))) ⌝ }
 {
     put_byte(o, 0, format::LocationRecord::KIND);
-    copies::copy16_to_24(&b[..format::LocationRecord::LEN], o, 1);
+    copies::copy16_to_32(&b[..format::LocationRecord::LEN], o, 1);
 }
 
 // A full piece.
@@ -103,7 +103,7 @@ fn last_piece(b: &[u8], o: &mut [u8])
     put_byte(o, 0, format::PieceRecord::KIND);
     put_byte(o, 1, b.len() as u8);
     copies::clear32(o, BYTES);
-    copies::copy_all(b, o, BYTES);
+    copies::copy_to_32(b, o, BYTES);
 }
 
 fn full_pieces(b: &[u8], count: usize, o: &mut [u8])
@@ -136,7 +136,7 @@ pub fn text_record(b: &[u8], o: &mut [u8])
     ensures { λ _. ⌜ now (o .exit) ≡ sets (now (o .entry)) 0 (recordBytes (recordOf 5 (take 20 (now (b .entry)) ++ bytes 4 (length (now (b .entry)) - 20)) ∷ [])) ⌝ }
 {
     put_byte(o, 0, format::TextRecord::KIND);
-    copies::copy16_to_24(&b[..format::TextRecord::F3], o, 1);
+    copies::copy16_to_32(&b[..format::TextRecord::F3], o, 1);
     octets::put_u32(o, F3_LENGTH, (b.len() - format::TextRecord::F3) as u32);
 }
 

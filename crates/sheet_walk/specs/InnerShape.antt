@@ -47,14 +47,26 @@ eachTakes r =
     cond (eqb (calledFor r .kind) 4) (targetLength (be 8 (r .body)))
     (cond (eqb (calledFor r .kind) 12) (total (widthsOf (scatterersBehind (r .body)))) 1)
 
--- x begins with n scatterers' records
-pub record BeginsWith (n : ℕ) (x : List ℕ) : Type 0 where
-  pub long : n * recordLength 12 ≤ length x
-  pub kinds : (i : ℕ) → i < n → getD x (i * recordLength 12) 0 ≡ 12
+-- the kind of a piece at a place of x, and behind it the count of a full one
+abbrev pub isFullAt : List ℕ → ℕ → Bool
+isFullAt x at = eqb (getD x at 0) 6 && eqb (getD x (at + 1) 0) 32
 
--- an answer that tells whether it does; inner contracts alone speak of it
-abbrev pub Tells : Bool → ℕ → List ℕ → Type 0
-Tells r n x = (r ≡ true → BeginsWith n x) × (BeginsWith n x → r ≡ true)
+-- a record of the kind begins at a place of x; a piece is a full one
+abbrev pub isBegunAt : ℕ → List ℕ → ℕ → Bool
+isBegunAt kind x at = cond (eqb kind 6) (isFullAt x at) (eqb (getD x at 0) kind)
+
+-- x begins with a row of n records of the kind; inner contracts alone speak of it
+pub record BeginsWith (kind n : ℕ) (x : List ℕ) : Type 0 where
+  pub long : n * recordLength kind ≤ length x
+  pub each : (i : ℕ) → i < n → isBegunAt kind x (i * recordLength kind) ≡ true
+
+-- an answer that tells whether it does
+abbrev pub Tells : Bool → ℕ → ℕ → List ℕ → Type 0
+Tells r kind n x = (r ≡ true → BeginsWith kind n x) × (BeginsWith kind n x → r ≡ true)
+
+-- how much each record of a row has of what is due: a full piece 32 bytes, any other is one
+abbrev pub eachHas : ℕ → ℕ
+eachHas kind = cond (eqb kind 6) 32 1
 
 -- what a record says that begins a segment
 unfoldable pub leadOf : Record → Lead

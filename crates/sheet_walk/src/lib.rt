@@ -1,14 +1,14 @@
 // The records of a sheet: the one at a place, what the one says that begins a segment, and how much those have that follow it.
 ghost use mathlib.Core.Path.{_≡_};
-ghost use mathlib.Core.Bool.{true, _||_};
-ghost use Prim.Native.Nat.{_*_, _≤_, min};
+ghost use mathlib.Core.Bool.{_||_, cond};
+ghost use Prim.Native.Nat.{_+_, _*_, _≤_, min};
 ghost use lib.Dec.{eqb};
 ghost use lib.ListN.{length, drop};
 ghost use Rattle.hrr.specs.InnerScatterers.{Narrow};
 ghost use Rattle.format.specs.Sheet.{bodyLength};
 ghost use Rattle.format.specs.Lengths.{recordLength};
 ghost use Rattle.format.specs.Writer.{listed, due, share as shareOf, carried as carriedBy};
-ghost use Rattle.sheet_walk.specs.InnerShape.{placeAt, isRest, scatterersBehind, leadOf, sizeBy, Bounded, BeginsWith, Tells};
+ghost use Rattle.sheet_walk.specs.InnerShape.{placeAt, isRest, scatterersBehind, leadOf, sizeBy, Bounded, isFullAt, Tells};
 
 // The kinds are the numbers below this one, without 0.
 const KINDS: u8 = format::ScattererRecord::KIND + 1;
@@ -33,9 +33,9 @@ const BODY_LENGTHS: [u8; KINDS as usize] = [
 // The bytes of four scatterers' records.
 const FOUR: usize = 4 * format::ScattererRecord::WHOLE;
 
-// A byte as a wider number: where it is used, no proof is asked that it fits.
+// A byte as a wider number, with its bound: where it is used, no proof is asked that it fits.
 fn wide(x: u8) -> usize
-    ensures { λ r. ⌜ r ≡ x ⌝ }
+    ensures { λ r. ⌜ (r ≡ x) × (r ≤ 255) ⌝ }
 {
     x as usize
 }
@@ -217,10 +217,45 @@ fn with_scatterers(b: &[u8]) -> Lead
     }
 }
 
+// The kind and the count that a full piece begins with, as one number, the first byte the lowest: so the compiler takes both at once.
+const FULL_PIECE: usize = format::PieceRecord::KIND as usize + 256 * format::PieceRecord::FULL;
+
+// Whether the bytes at a place are the kind and the count of a full piece.
+pub fn is_full_piece(x: &[u8], at: usize) -> bool
+    requires { ⌜ at + 2 ≤ length (now x) ⌝ }
+    ensures { λ r. ⌜ r ≡ isFullAt (now (x .entry)) at ⌝ }
+{
+    wide(x[at]) + wide(x[at + 1]) * 256 == FULL_PIECE
+}
+
+// 0 where they are, else 1.
+fn not_full(x: &[u8], at: usize) -> u8
+    requires { ⌜ at + 2 ≤ length (now x) ⌝ }
+    ensures { λ r. ⌜ r ≡ cond (isFullAt (now (x .entry)) at) 0 1 ⌝ }
+{
+    if is_full_piece(x, at) { 0 } else { 1 }
+}
+
+// Whether x begins with so many full pieces. The loop goes on where one is none, and gathers in a byte: with a branch for each it waits longer.
+pub fn are_full_pieces(x: &[u8], count: usize) -> bool
+    ensures { λ r. ⌜ Tells r 6 count (now (x .entry)) ⌝ }
+{
+    if x.len() / format::PieceRecord::WHOLE < count {
+        return false;
+    }
+    let mut seen: u8 = 0;
+    let mut at: usize = 0;
+    for i in 0..count {
+        seen = seen | not_full(x, at);
+        at += format::PieceRecord::WHOLE;
+    }
+    seen == 0
+}
+
 // Whether x begins with four scatterers.
 fn are_four(x: &[u8]) -> bool
     requires { ⌜ 4 * recordLength 12 ≤ length (now x) ⌝ }
-    ensures { λ r. ⌜ Tells r 4 (now (x .entry)) ⌝ }
+    ensures { λ r. ⌜ Tells r 12 4 (now (x .entry)) ⌝ }
 {
     x[0] == format::ScattererRecord::KIND
         && x[format::ScattererRecord::WHOLE] == format::ScattererRecord::KIND
@@ -231,7 +266,7 @@ fn are_four(x: &[u8]) -> bool
 // Whether x begins with n times four scatterers.
 fn are_fours(x: &[u8], n: usize) -> bool
     requires { ⌜ n * 4 * recordLength 12 ≤ length (now x) ⌝ }
-    ensures { λ r. ⌜ Tells r (n * 4) (now (x .entry)) ⌝ }
+    ensures { λ r. ⌜ Tells r 12 (n * 4) (now (x .entry)) ⌝ }
 {
     let mut at: usize = 0;
     for i in 0..n {
@@ -246,7 +281,7 @@ fn are_fours(x: &[u8], n: usize) -> bool
 // The same by one record a turn, for the few that are left.
 fn are_few(x: &[u8], count: usize) -> bool
     requires { ⌜ count * recordLength 12 ≤ length (now x) ⌝ }
-    ensures { λ r. ⌜ Tells r count (now (x .entry)) ⌝ }
+    ensures { λ r. ⌜ Tells r 12 count (now (x .entry)) ⌝ }
 {
     let mut at: usize = 0;
     for i in 0..count {
@@ -260,7 +295,7 @@ fn are_few(x: &[u8], count: usize) -> bool
 
 // Whether x begins with so many scatterers. Four are looked at in a turn: with one record a turn, the branch for each is what the loop waits for.
 pub fn are_scatterers(x: &[u8], count: usize) -> bool
-    ensures { λ r. ⌜ (r ≡ true → BeginsWith count (now (x .entry))) × (BeginsWith count (now (x .entry)) → r ≡ true) ⌝ }
+    ensures { λ r. ⌜ Tells r 12 count (now (x .entry)) ⌝ }
 {
     if x.len() / format::ScattererRecord::WHOLE < count {
         return false;

@@ -1,7 +1,7 @@
 pub mod Narrow
 pub mod Followers
 pub mod Regrouped
-pub mod Scattered
+pub mod Rows
 pub mod Surveyed
 pub mod Stored
 pub mod Nexts

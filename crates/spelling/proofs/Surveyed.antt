@@ -2,10 +2,9 @@
 -- Assumes nothing.
 use mathlib.Core.Path.{_≡_, refl, sym, ap, subst, _∙_}
 use mathlib.Core.Bool.{Bool, true, false, not, _&&_, _||_, cond, and-false, true≢false}
-use mathlib.Core.Logic.{inl, inr}
 use mathlib.Core.List.{List, [], _++_}
 use Prim.Native.Nat.{ℕ, zero, suc, _+_, _-_, _*_, _≤_, _<_}
-use native.Mathlib.Nat.{zero-mul}
+use native.Mathlib.Nat.{zero-mul, suc-mul}
 use native.Mathlib.Omega.{arith}
 use borrow.Author.Tests.{lt-ltb, le-ltb, ltb-true, eq-eqb, ne-eqb, eqb-true, eqb-false}
 use lib.Dec.{ltb, eqb, lit≤}
@@ -17,17 +16,19 @@ use Rattle.format.proofs.Listing.{listed-formed, before}
 use Rattle.sheet_walk.specs.declared.Place.{Place}
 use Rattle.sheet_walk.specs.declared.Place.the-variants.{Whole, End, Cut}
 use Rattle.sheet_walk.specs.declared.Lead.{Lead}
-use Rattle.sheet_walk.specs.InnerShape.{placeAt, isSheet, isRest, Shaped, eachTakes, leadOf, sizeBy, BeginsWith}
+use Rattle.sheet_walk.specs.InnerShape.{placeAt, isSheet, isRest, Shaped, eachTakes, leadOf, sizeBy, BeginsWith, eachHas}
 use Rattle.sheet_walk.proofs.Places.{cutAt, WholeAt, Known, at-place}
-use Rattle.sheet_walk.proofs.Runs.{first-scatterer}
+use Rattle.sheet_walk.proofs.Runs.{first-of}
 use Rattle.sheet_walk.proofs.Headed.{header-first, other-first, header-again}
 use Rattle.spelling.specs.declared.Survey.{Survey}
 use Rattle.spelling.specs.declared.Survey.the-variants.{Unlisted, Incomplete, Spells}
+use Rattle.spelling.specs.declared.Ahead.{Ahead}
 use Rattle.spelling.specs.declared.Counted.{Counted}
 use Rattle.spelling.specs.declared.Counted.the-variants.{Then, Misplaced}
 use Rattle.spelling.specs.InnerSpelling.{sizeOf, speltAll, capped, headerEnd, surveyed, counted, Passes}
 use Rattle.spelling.proofs.Followers.{by-call}
 use Rattle.spelling.proofs.Regrouped.{sizes, Told, told}
+use Rattle.spelling.proofs.Rows.{has-some, has-share, begun-has}
 
 -- ---- a sheet that begins with a header
 
@@ -248,35 +249,45 @@ module _ (x : List ℕ) (at kind left sum : ℕ) (i : Walked x at kind left sum)
         let kept-here : Due-follows f l × (s ≤ 65537) = rw (sym e) at (kept (due kind left) sum (cutAt x at k end) (i .follows) (i .short)) in
         record { short = kept-here .1; follows = kept-here .0; rest = onward n e }
 
--- past all the scatterers that are due at once
-pub past-scatterers : (x : List ℕ) (n at sum : ℕ) → at ≤ length x → Walked x at 12 n sum → BeginsWith n (drop at x) → Walked x (at + n * recordLength 12) 12 0 sum
-past-scatterers x zero at sum h i b =
-    let e : at ≡ at + 0 * recordLength 12 = omega arith in
-    rw e at i
-past-scatterers x (suc n) at sum h i b =
-    let first = first-scatterer x n at h b in
-    let end = at + recordLength 12 in
-    let here = cutAt x at 12 end in
-    let left : suc n - 1 ≡ n = omega arith in
-    let e : end + n * recordLength 12 ≡ at + suc n * recordLength 12 = omega arith in
-    let counted-one : Then 12 n sum ≡ counted (due 12 (suc n)) sum here =
-    sym (count-follower (due 12 (suc n)) sum here (omega arith) refl refl ∙ ap (λ (k : ℕ). Then 12 k sum) left) in
-    rw e at (past-scatterers x n end sum (first .0 .fits) (turn x at 12 (suc n) sum i 12 end (first .0) (λ z. omega arith) 12 n sum counted-one) (first .1))
+-- a kind that is due behind a record is the kind of some record, and no header
+follower-known : (kind : ℕ) → (eqb kind 4 || eqb kind 6 || eqb kind 12) ≡ true → (0 < bodyLength kind) × (kind ≡ 1 → ⊥)
+unfolding bodyLength
+follower-known kind f = go (eqb kind 4) refl (eqb kind 6) refl (eqb kind 12) refl f
+  where
+    go : (a : Bool) → eqb kind 4 ≡ a → (b : Bool) → eqb kind 6 ≡ b → (c : Bool) → eqb kind 12 ≡ c → (a || b || c) ≡ true → (0 < bodyLength kind) × (kind ≡ 1 → ⊥)
+    go true p b q c s e = (omega (arith, ap bodyLength (eqb-true kind 4 p)), λ z. omega (arith, z, eqb-true kind 4 p))
+    go false p true q c s e = (omega (arith, ap bodyLength (eqb-true kind 6 q)), λ z. omega (arith, z, eqb-true kind 6 q))
+    go false p false q true s e = (omega (arith, ap bodyLength (eqb-true kind 12 s)), λ z. omega (arith, z, eqb-true kind 12 s))
+    go false p false q false s e = absurd (true≢false (sym e))
 
--- past as many as are passed at once
-pub passed-bound : {follower left n : ℕ} {y : List ℕ} → Passes follower left y n → (n ≤ left) × (n * recordLength 12 ≤ length y)
-passed-bound (inl z) = (omega arith, omega arith)
-passed-bound (inr p) = (omega (arith, p .0), omega (arith, p .0, p .2 .long))
+-- past a row of records at once
+pub past-row : (x : List ℕ) (kind n at left sum : ℕ) → at ≤ length x → Walked x at kind (left + n * eachHas kind) sum → BeginsWith kind n (drop at x)
+    → Walked x (at + n * recordLength kind) kind left sum
+past-row x kind zero at left sum h i b =
+    let e : at ≡ at + 0 * recordLength kind = omega (arith, zero-mul (recordLength kind)) in
+    let l : left + 0 * eachHas kind ≡ left = omega (arith, zero-mul (eachHas kind)) in
+    rw e at (rw l at i)
+past-row x kind (suc n) at left sum h i b =
+    let has = eachHas kind in
+    let all = left + suc n * has in
+    let more : all ≡ left + n * has + has = omega (arith, suc-mul n has) in
+    let some : 0 < all = omega (arith, more, has-some kind) in
+    let known = follower-known kind (i .follows some) in
+    let first = first-of kind x (known .0) n at h b in
+    let end = at + recordLength kind in
+    let here = cutAt x at kind end in
+    let shared : share (due kind all) ≡ has = has-share kind all (omega (arith, more)) in
+    let carries : carried here ≡ has = begun-has x kind at end (omega arith) (first .0) in
+    let less : all - share (due kind all) ≡ left + n * has = omega (arith, more, shared) in
+    let counted-one : Then kind (left + n * has) sum ≡ counted (due kind all) sum here =
+    sym (count-follower (due kind all) sum here some refl (carries ∙ sym shared) ∙ ap (λ (k : ℕ). Then kind k sum) less) in
+    let e : end + n * recordLength kind ≡ at + suc n * recordLength kind = omega (arith, suc-mul n (recordLength kind)) in
+    rw e at (past-row x kind n end left sum (first .1 .fits) (turn x at kind all sum i kind end (first .1) (known .1) kind (left + n * has) sum counted-one) (first .2))
 
-pub past-passed : (x : List ℕ) (at follower left sum n : ℕ) → at ≤ length x → Walked x at follower left sum → Passes follower left (drop at x) n
-    → Walked x (at + n * recordLength 12) follower (left - n) sum
-past-passed x at follower left sum n h i (inl z) =
-    let e : at ≡ at + n * recordLength 12 = omega arith in
-    let f : left ≡ left - n = omega arith in
-    rw f at (rw e at i)
-past-passed x at follower left sum n h i (inr p) =
-    let f : 0 ≡ left - n = omega (arith, p .0) in
-    rw (p .1, sym f, p .0) (past-scatterers x left at sum h (rw (p .1) at i) (p .2))
+-- as far as the walk goes at once
+pub past-passed : (x : List ℕ) (at follower left sum : ℕ) (a : Ahead) → at ≤ length x → Walked x at follower left sum → Passes x at follower left a
+    → Walked x (a .at) follower (a .left) sum
+past-passed x at follower left sum a h i (n, to, l, b) = rw to (past-row x follower n at (a .left) sum h (rw l at i) b)
 
 -- ---- what is found of a sheet, said of the rows
 

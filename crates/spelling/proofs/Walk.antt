@@ -14,17 +14,18 @@ use Rattle.octets.proofs.Laws.{then}
 use Rattle.octets.proofs.Parts.{filled-next, filled-length}
 use Rattle.format.specs.Sheet.{Record, bodyLength}
 use Rattle.format.specs.Lengths.{recordLength}
-use Rattle.format.specs.Writer.{Listed, listed, due, calledFor, isFollower, share, isComplete, givenBehind, spell}
+use Rattle.format.specs.Writer.{Listed, listed, Due, due, calledFor, isFollower, share, isComplete, givenBehind, spell}
 use Rattle.format.proofs.Records.{Formed, AllFormed}
 use Rattle.format.proofs.Rows.{neither}
 use Rattle.format.proofs.Listing.{listed-formed}
-use Rattle.sheet_walk.specs.InnerShape.{Shaped, scatterersBehind, BeginsWith}
+use Rattle.sheet_walk.specs.InnerShape.{Shaped}
 use Rattle.sheet_walk.proofs.Places.{cutAt, WholeAt}
-use Rattle.spelling.specs.InnerSpelling.{spelt, scattered, speltNext, readNext, leaderBehind, speltAll, recordIn, leading, Spellable}
-use Rattle.spelling.proofs.Followers.{dueOf, First, follows, begins, first}
+use Rattle.sheet_walk.proofs.Runs.{none}
+use Rattle.spelling.specs.InnerSpelling.{spelt, rowBehind, givenInRow, speltNext, readNext, leaderBehind, speltAll, recordIn, leading, Spellable, BeginsRow}
+use Rattle.spelling.proofs.Followers.{dueOf, by-call, First, follows, begins, first}
 use Rattle.spelling.proofs.Regrouped.{sizes, told}
-use Rattle.spelling.proofs.Scattered.{Run, run}
-use Rattle.spelling.proofs.Nexts.{hrr-read, other-next, other-read}
+use Rattle.spelling.proofs.Rows.{Behind, targets-behind, pieces-behind, scatterers-behind, none-behind, follower-row}
+use Rattle.spelling.proofs.Nexts.{next-is, alone-next, alone-read, read-is}
 use Rattle.spelling.proofs.Surveyed.{headed, complete-behind, spell-is}
 
 -- the record from one place to another that began the segment
@@ -44,7 +45,7 @@ leftAt x leader at = speltAll leader (listed (drop at x) .records)
 abbrev pub segments : List ℕ → List ℕ
 segments x = leftAt x (cutAt x 0 1 33) 33
 
--- what the walk keeps; o₀ has the header already, and scatterers are passed with the record that calls for them
+-- what the walk keeps; o₀ has the header already, and a row is passed with the record that calls for it, all its scatterers
 pub record Left (x o₀ o : List ℕ) (at to from end : ℕ) : Type 0 where
   pub kind : ℕ
   pub left : ℕ
@@ -102,7 +103,7 @@ module _ (x o₀ o : List ℕ) (at to from end : ℕ) (l : Left x o₀ o at to f
   abbrev others : List Record
   others = listed (drop next x) .records
 
-  -- the bytes that it adds, with those of the scatterers that it calls for
+  -- the bytes that it adds, with those of the row behind it
   abbrev pub adds : List ℕ
   adds = speltNext (leading (leads .body)) here (drop next x)
 
@@ -127,29 +128,23 @@ module _ (x o₀ o : List ℕ) (at to from end : ℕ) (l : Left x o₀ o at to f
   unfolding speltAll spelt givenBehind
   left-is = ap (speltAll leads) records-are
 
-  -- a record of kind 11 begins a segment, and its scatterers stand behind it
-  module _ (e : k ≡ 11) where
-    calls : isComplete (due 12 (scatterersBehind (here .body) .count)) others ≡ true
-    unfolding calledFor
-    calls = go may-be
-      where
-        go : First leads (l .left) here others → isComplete (due 12 (scatterersBehind (here .body) .count)) others ≡ true
-        go (follows h g c) = absurd (true≢false (sym (g .follows) ∙ rw e))
-        go (begins z g c) = rw e at c
+  -- one that begins a segment has its row behind it
+  row-behind : isComplete (calledFor here) others ≡ true → Behind x here next (calledFor here)
+  row-behind =
+      by-call (λ (d : Due). isComplete d others ≡ true → Behind x here next d) here
+      (λ _ n. targets-behind x here next n) (λ n. pieces-behind x here next n) (λ _ n. scatterers-behind x here next n) (none-behind x here next)
 
-    scatterers : Run x here next (scatterersBehind (here .body) .count)
-    scatterers = run x here (scatterersBehind (here .body) .count) next calls
-
-  pub begins-with : k ≡ 11 → BeginsWith (scatterersBehind (here .body) .count) (drop next x)
-  begins-with e = scatterers e .begins
-
-  -- so the place behind these lies within the sheet
-  pub then-within : then-at ≤ length x
-  then-within = go (eqb k 11) refl
+  -- and no other has one
+  pub begins-with : BeginsRow here (drop next x)
+  begins-with = go may-be
     where
-      go : (b : Bool) → eqb k 11 ≡ b → then-at ≤ length x
-      go true t = omega (arith, w .fits, hrr-read k (here .body) (eqb-true k 11 t), begins-with (eqb-true k 11 t) .long, length-drop next x)
-      go false t = omega (arith, w .fits, other-read k (here .body) (eqb-false k 11 t))
+      go : First leads (l .left) here others → BeginsRow here (drop next x)
+      go (follows h g c) = rw (follower-row here (g .follows)) (none (calledFor here .kind) (drop next x))
+      go (begins z g c) = row-behind c .row-is .begins
+
+  -- so the place behind it lies within the sheet
+  pub then-within : then-at ≤ length x
+  then-within = omega (arith, w .fits, read-is here, begins-with .long, length-drop next x)
 
   -- what is certain of it
   pub spellable : Spellable (leads .body) here
@@ -181,23 +176,12 @@ module _ (x o₀ o : List ℕ) (at to from end : ℕ) (l : Left x o₀ o at to f
     pub passed : kind ≡ 11 → left ≡ 0
     pub left-are : leftAt x leads at ≡ adds ++ leftAt x (led x a e kind) then-at
 
-  -- any other than of kind 11 is passed by itself
-  module _ (h : k ≡ 11 → ⊥) (a e m : ℕ) (i : leaderBehind leads here ≡ led x a e m) where
-    at-next : then-at ≡ next
-    at-next = omega (arith, other-read k (here .body) h)
-
-    alone : leftAt x leads at ≡ adds ++ leftAt x (led x a e m) then-at
-    alone =
-        left-is
-        ∙ ap₂ (λ (y : List ℕ) (r : Record). y ++ speltAll r others) (other-next (leads .body) k (here .body) (drop next x) h) i
-        ∙ ap (λ (n : ℕ). adds ++ leftAt x (led x a e m) n) (sym at-next)
-
   -- a follower
   pub turned-follower : isFollower here ≡ true → Turned from end
   turned-follower f = go may-be
     where
-      other : k ≡ 11 → ⊥
-      other e = true≢false (sym f ∙ rw e)
+      at-next : then-at ≡ next
+      at-next = omega (arith, alone-read leads here (drop next x) (follower-row here f))
 
       go : First leads (l .left) here others → Turned from end
       go (follows h g c) =
@@ -205,59 +189,49 @@ module _ (x o₀ o : List ℕ) (at to from end : ℕ) (l : Left x o₀ o at to f
             kind = l .kind;
             left = l .left - share (dueOf leads (l .left));
             leader = l .leader;
-            complete = rw (at-next other from end (l .kind) (rw f)) c;
+            complete = rw at-next c;
             passed = λ e. absurd (omega (arith, l .passed e));
-            left-are = alone other from end (l .kind) (rw f);
+            left-are =
+                left-is
+                ∙ ap₂ (λ (y : List ℕ) (r : Record). y ++ speltAll r others) (alone-next (leading (leads .body)) here (drop next x) (follower-row here f)) (rw f)
+                ∙ ap (λ (n : ℕ). adds ++ leftAt x leads n) (sym at-next);
           }
       go (begins z g c) = absurd (true≢false (sym f ∙ g))
 
-  -- one of kind 11 with its scatterers
-  with-scatterers : k ≡ 11 → isFollower here ≡ false → Turned (at + 1) next
-  unfolding calledFor speltNext
-  with-scatterers e f =
-      let n = scatterersBehind (here .body) .count in
-      let there : next + n * recordLength 12 ≡ then-at = ap (λ (i : ℕ). next + i) (hrr-read k (here .body) e) in
-      let tail : ℕ → List ℕ = λ i. speltAll here (listed (drop i x) .records) in
-      let own = spelt (leading (leads .body)) here in
-      let some = scattered (here .body) (drop next x) in
-      let all : adds ≡ own ++ some = rw e in
-      let due-is : calledFor here .kind ≡ 12 = rw e in
-      record {
-        kind = k;
-        left = 0;
-        leader = record { within = omega (arith, w .within); fits = w .fits; formed = w .formed };
-        complete = ap₂ (λ (m i : ℕ). isComplete (due m 0) (listed (drop i x) .records)) due-is (sym there) ∙ scatterers e .complete;
-        passed = λ _. refl;
-        left-are =
-            left-is
-            ∙ ap (λ (r : Record). own ++ speltAll r others) (rw f)
-            ∙ ap (λ (y : List ℕ). own ++ y) (scatterers e .spelt-are)
-            ∙ sym (append-assoc own some (tail (next + n * recordLength 12)))
-            ∙ ap₂ (λ (y : List ℕ) (i : ℕ). y ++ tail i) (sym all) there;
-      }
-
   -- one that begins a segment
   pub turned-leader : isFollower here ≡ false → Turned (at + 1) next
-  turned-leader f = go (eqb k 11) refl
+  unfolding calledFor
+  turned-leader f = go may-be
     where
-      leads-now : Leader x (at + 1) next k
-      leads-now = record { within = omega (arith, w .within); fits = w .fits; formed = w .formed }
+      there : next + rowBehind here * recordLength (calledFor here .kind) ≡ then-at
+      there = ap (λ (i : ℕ). next + i) (read-is here)
 
-      other : (k ≡ 11 → ⊥) → First leads (l .left) here others → Turned (at + 1) next
-      other h (follows z g c) = absurd (true≢false (sym (g .follows) ∙ f))
-      other h (begins z g c) =
+      own : List ℕ
+      own = spelt (leading (leads .body)) here
+
+      tail : ℕ → List ℕ
+      tail i = speltAll here (listed (drop i x) .records)
+
+      scatterers-due : k ≡ 11 → calledFor here .kind ≡ 12
+      scatterers-due e = rw e
+
+      go : First leads (l .left) here others → Turned (at + 1) next
+      go (follows z g c) = absurd (true≢false (sym (g .follows) ∙ f))
+      go (begins z g c) =
+          let row = row-behind c in
           record {
             kind = k;
-            left = calledFor here .left;
-            leader = leads-now;
-            complete = rw (at-next h (at + 1) next k (rw f)) c;
-            passed = λ e. absurd (h e);
-            left-are = alone h (at + 1) next k (rw f);
+            left = row .left;
+            leader = record { within = omega (arith, w .within); fits = w .fits; formed = w .formed };
+            complete = ap (λ (i : ℕ). isComplete (dueOf here (row .left)) (listed (drop i x) .records)) (sym there) ∙ row .row-is .complete;
+            passed = λ e. row .no-scatterer (scatterers-due e);
+            left-are =
+                left-is
+                ∙ ap (λ (r : Record). own ++ speltAll r others) (rw f)
+                ∙ ap (λ (y : List ℕ). own ++ y) (row .row-is .spelt-are)
+                ∙ sym (append-assoc own (givenInRow here (drop next x)) (tail (next + rowBehind here * recordLength (calledFor here .kind))))
+                ∙ ap₂ (λ (y : List ℕ) (i : ℕ). y ++ tail i) (next-is (leading (leads .body)) here (drop next x)) there;
           }
-
-      go : (b : Bool) → eqb k 11 ≡ b → Turned (at + 1) next
-      go false t = other (eqb-false k 11 t) may-be
-      go true t = with-scatterers (eqb-true k 11 t) f
 
   pub has-room : to + length adds ≤ length o₀
   has-room = go (isFollower here) refl

@@ -1,24 +1,24 @@
 -- The spelt packet one record at a time, as the code goes. On a sheet that row 18 lets pass, a record by itself tells the size of the
 -- segment that it begins, so nothing waits for the records behind it.
 -- Assumes nothing.
-use Prim.Native.Nat.{ℕ, _+_, _-_, _*_, _≤_, min}
+use Prim.Native.Nat.{ℕ, zero, suc, _+_, _-_, _*_, _/_, _≤_, min}
 use mathlib.Core.Path.{_≡_}
 use mathlib.Core.Bool.{_&&_, cond}
-use mathlib.Core.Logic.{_⊎_}
 use mathlib.Core.List.{List, [], _∷_, _++_}
 use lib.Dec.{ltb, eqb}
-use lib.ListN.{length, getD}
+use lib.ListN.{length, getD, take, drop}
+use lib.Seq.{sets}
 use Rattle.octets.specs.Octets.{bytes}
-use Rattle.hrr.specs.InnerScatterers.{widthsOf}
-use Rattle.pack_hrr.specs.InnerNarrowed.{narrowedAll}
 use Rattle.format.specs.Sheet.{Record, bodyLength}
 use Rattle.format.specs.Lengths.{recordLength}
 use Rattle.format.specs.Writer.{listed, Due, due, calledFor, isFollower, share, carried, isComplete, typeOf, given, givenBehind, spell}
 use Rattle.sheet_walk.specs.declared.Place.{Place}
 use Rattle.sheet_walk.specs.declared.Place.the-variants.{Whole, End, Cut}
-use Rattle.sheet_walk.specs.InnerShape.{isSheet, scatterersBehind, eachTakes, BeginsWith}
+use Rattle.sheet_walk.specs.InnerShape.{isSheet, eachTakes, BeginsWith, eachHas}
 use Rattle.spelling.specs.declared.Survey.{Survey}
 use Rattle.spelling.specs.declared.Survey.the-variants.{Unlisted, Incomplete, Spells}
+use Rattle.spelling.specs.declared.Ahead.{Ahead}
+use Rattle.spelling.specs.declared.Step.{Step}
 use Rattle.spelling.specs.declared.Counted.{Counted}
 use Rattle.spelling.specs.declared.Counted.the-variants.{Then, Misplaced}
 
@@ -38,16 +38,36 @@ begun r = typeOf r ∷ (bytes 4 (sizeOf r) ++ given r)
 unfoldable pub spelt : Record → Record → List ℕ
 spelt leader r = cond (isFollower r) (givenBehind leader r) (begun r)
 
--- the bytes of the scatterers that a record of kind 11 with this body calls for, which rest begins with
-abbrev pub scattered : List ℕ → List ℕ → List ℕ
-scattered b rest = narrowedAll (widthsOf (scatterersBehind b)) (scatterersBehind b .count) rest
+-- how many of the records that are due are put at once, as a row: all scatterers, and of pieces those that are full
+unfoldable pub rowOf : Due → ℕ
+rowOf d = cond (eqb (d .kind) 12) (d .left) (cond (eqb (d .kind) 6) (d .left / 32) 0)
 
--- the bytes that a record adds with the scatterers that it calls for, and how many bytes these take on the sheet
-unfoldable pub speltNext : Record → Record → List ℕ → List ℕ
-speltNext leader r rest = spelt leader r ++ cond (eqb (r .kind) 11) (scattered (r .body) rest) []
+-- those behind a record
+abbrev pub rowBehind : Record → ℕ
+rowBehind r = rowOf (calledFor r)
+
+-- the bytes that n records of a kind in a row give, with which rest begins
+unfoldable pub rowGiven : Record → ℕ → ℕ → List ℕ → List ℕ
+rowGiven leader kind zero rest = []
+rowGiven leader kind (suc n) rest =
+    givenBehind leader (record { kind = kind; body = take (bodyLength kind) (drop 1 rest) })
+    ++ rowGiven leader kind n (drop (recordLength kind) rest)
+
+-- so of the row behind a record; and how many bytes this row takes on the sheet
+abbrev pub givenInRow : Record → List ℕ → List ℕ
+givenInRow r rest = rowGiven r (calledFor r .kind) (rowBehind r) rest
 
 unfoldable pub readNext : Record → ℕ
-readNext r = cond (eqb (r .kind) 11) (scatterersBehind (r .body) .count * recordLength 12) 0
+readNext r = rowBehind r * recordLength (calledFor r .kind)
+
+-- the bytes that a record adds with the row behind it
+unfoldable pub speltNext : Record → Record → List ℕ → List ℕ
+speltNext leader r rest = spelt leader r ++ givenInRow r rest
+
+-- the bytes that n full pieces' records give, with which rest begins
+unfoldable pub carriedAll : ℕ → List ℕ → List ℕ
+carriedAll zero rest = []
+carriedAll (suc n) rest = take 32 (drop 2 rest) ++ carriedAll n (drop (recordLength 6) rest)
 
 -- the record that begins the segment of those behind a record
 abbrev pub leaderBehind : Record → Record → Record
@@ -81,9 +101,22 @@ Spellable leader r =
     × (r .kind ≡ 6 → getD (r .body) 0 0 ≤ 32)
     × (r .kind ≡ 12 → ⊥)
 
--- the same with rest behind the record, which begins with the scatterers that it calls for; inner contracts alone speak of it
+-- rest begins with the row behind a record
+abbrev pub BeginsRow : Record → List ℕ → Type 0
+BeginsRow r rest = BeginsWith (calledFor r .kind) (rowBehind r) rest
+
+-- what is certain of a record and of rest, which stands behind it
 abbrev pub SpellableNext : List ℕ → Record → List ℕ → Type 0
-SpellableNext leader r rest = Spellable leader r × (r .kind ≡ 11 → BeginsWith (scatterersBehind (r .body) .count) rest)
+SpellableNext leader r rest = Spellable leader r × BeginsRow r rest
+
+-- what is asked to put the row behind a record at the front of o, and what is then told: how far it goes on the sheet and in the packet
+abbrev pub Followed : Record → List ℕ → List ℕ → Type 0
+Followed r rest o = BeginsRow r rest × (length (givenInRow r rest) ≤ length o)
+
+pub record Put (r : Record) (rest o : List ℕ) (s : Step) (left : List ℕ) : Type 0 where
+  pub read-is : s .read ≡ readNext r
+  pub written-is : s .written ≡ length (givenInRow r rest)
+  pub stored : left ≡ sets o 0 (givenInRow r rest)
 
 -- ---- rows 17 and 18, and the length of the packet
 
@@ -112,6 +145,7 @@ counted d sum r =
     (cond (eqb (r .kind) (d .kind) && eqb (carried r) (share d)) (Then (d .kind) (d .left - share d) sum) Misplaced)
     (cond (isFollower r) Misplaced (Then (calledFor r .kind) (calledFor r .left) (capped (sum + sizeOf r))))
 
--- how many records from the front of x on are passed at once, where so much of a kind is left: none, or all the scatterers
-abbrev pub Passes : ℕ → ℕ → List ℕ → ℕ → Type 0
-Passes follower left x n = (n ≡ 0) ⊎ ((n ≡ left) × (follower ≡ 12) × BeginsWith left x)
+-- how far a walk goes at once from a place of x where so much of a kind is due: past a row of n records of that kind, or n is 0
+abbrev pub Passes : List ℕ → ℕ → ℕ → ℕ → Ahead → Type 0
+Passes x at follower left a =
+    (n : ℕ) × (a .at ≡ at + n * recordLength follower) × (left ≡ a .left + n * eachHas follower) × BeginsWith follower n (drop at x)

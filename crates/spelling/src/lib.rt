@@ -1,7 +1,8 @@
 // The packet that a sheet spells: the header, then each segment with S2 worked out and only announced fields.
 ghost use mathlib.Core.Path.{_≡_};
-ghost use mathlib.Core.Bool.{cond};
+ghost use mathlib.Core.Bool.{true, _||_, cond};
 ghost use mathlib.Core.List.{_∷_};
+ghost use mathlib.Core.Logic.{_⊎_};
 ghost use Prim.Native.Nat.{_*_, _≤_};
 ghost use lib.Dec.{eqb};
 ghost use lib.ListN.{length, getD, take, drop};
@@ -9,10 +10,10 @@ ghost use lib.Seq.{sets};
 ghost use Rattle.octets.specs.Octets.{bytes};
 ghost use Rattle.format.specs.Sheet.{bodyLength};
 ghost use Rattle.format.specs.Lengths.{recordLength};
-ghost use Rattle.format.specs.Writer.{listed, due, given as givenOf, spell as spellSheet};
-ghost use Rattle.sheet_walk.specs.InnerShape.{placeAt, isRest, Shaped, scatterersBehind, BeginsWith};
+ghost use Rattle.format.specs.Writer.{listed, due, calledFor, given as givenOf, spell as spellSheet};
+ghost use Rattle.sheet_walk.specs.InnerShape.{placeAt, isRest, Shaped};
 ghost use Rattle.spelling.specs.declared.Survey.the-variants.{Unlisted, Incomplete, Spells};
-ghost use Rattle.spelling.specs.InnerSpelling.{begun, spelt, scattered, speltNext, readNext, recordIn, leading, Begins, Spellable, SpellableNext};
+ghost use Rattle.spelling.specs.InnerSpelling.{begun, spelt, carriedAll, speltNext, readNext, recordIn, leading, Begins, Spellable, SpellableNext, Followed, Put};
 ghost use Rattle.spelling.specs.InnerSpelling.{headerEnd, surveyed, capped as cappedAt, counted, Passes};
 use sheet_walk::Place;
 
@@ -95,20 +96,38 @@ fn header_end(x: &[u8]) -> usize
     }
 }
 
-// How many of the records from a place on can be passed at once, behind a record of this kind: scatterers, where all that are due are there. They
-// are looked at once, behind the HRR record: where one is none, the walk finds it record by record.
-fn passed(x: &[u8], at: usize, follower: u8, left: usize) -> usize
+// A place on the sheet, and how much is left there of what is due.
+struct Ahead {
+    at: usize,
+    left: usize,
+}
+
+// How far the walk can go at once from a place behind a record that begins a segment: past all the scatterers that are due, or past all the full
+// pieces, where they are there. They are looked at once, behind that record: where one is missing, the walk finds it record by record.
+fn passed(x: &[u8], at: usize, follower: u8, left: usize) -> Ahead
     requires { ⌜ at ≤ length (now x) ⌝ }
-    ensures { λ n. ⌜ Passes follower left (drop at (now (x .entry))) n ⌝ }
+    ensures { λ a. ⌜ Passes (now (x .entry)) at follower left a ⌝ }
 {
+    if follower == format::PieceRecord::KIND {
+        let full = left / format::PieceRecord::FULL;
+        if sheet_walk::are_full_pieces(&x[at..], full) {
+            return Ahead {
+                at: at + full * format::PieceRecord::WHOLE,
+                left: left % format::PieceRecord::FULL,
+            };
+        }
+        return Ahead { at, left };
+    }
     if follower != format::ScattererRecord::KIND {
-        return 0;
+        return Ahead { at, left };
     }
     if sheet_walk::are_scatterers(&x[at..], left) {
-        left
-    } else {
-        0
+        return Ahead {
+            at: at + left * format::ScattererRecord::WHOLE,
+            left: 0,
+        };
     }
+    Ahead { at, left }
 }
 
 // What is found at the sheet's end, where so much is due and so many bytes are spelt.
@@ -151,9 +170,9 @@ pub fn survey_of(x: &[u8]) -> Survey
                             left = l;
                             at = end;
                         } else {
-                            let n = passed(x, end, f, l);
-                            left = l - n;
-                            at = end + n * format::ScattererRecord::WHOLE;
+                            let ahead = passed(x, end, f, l);
+                            left = ahead.left;
+                            at = ahead.at;
                         }
                     }
                 }
@@ -219,12 +238,8 @@ fn put_piece(b: &[u8], o: &mut [u8]) -> usize
     ensures { λ _. ⌜ now (o .exit) ≡ sets (now (o .entry)) 0 (take (getD (now (b .entry)) 0 0) (drop 1 (now (b .entry)))) ⌝ }
 {
     let count = b[0] as usize;
-    if count == format::PieceRecord::FULL {
-        copies::copy32(b, format::PieceRecord::BYTES, o, 0);
-        return format::PieceRecord::FULL;
-    }
     let to = format::PieceRecord::BYTES + count;
-    copies::copy_all(&b[format::PieceRecord::BYTES..to], o, 0);
+    copies::copy_to_32(&b[format::PieceRecord::BYTES..to], o, 0);
     count
 }
 
@@ -251,9 +266,8 @@ struct Step {
 
 // The scatterers that a record of kind 11 with the body b calls for, which rest begins with.
 fn put_scatterers(b: &[u8], rest: &[u8], o: &mut [u8]) -> Step
-    requires { ⌜ (length (now b) ≡ bodyLength 11) × BeginsWith (scatterersBehind (now b) .count) (now rest) × (length (scattered (now b) (now rest)) ≤ length (now o)) ⌝ }
-    ensures { λ s. ⌜ (s .read ≡ scatterersBehind (now (b .entry)) .count * recordLength 12) × (s .written ≡ length (scattered (now (b .entry)) (now (rest .entry)))) ⌝ }
-    ensures { λ _. ⌜ now (o .exit) ≡ sets (now (o .entry)) 0 (scattered (now (b .entry)) (now (rest .entry))) ⌝ }
+    requires { ⌜ (length (now b) ≡ bodyLength 11) × Followed (recordIn 11 (now b)) (now rest) (now o) ⌝ }
+    ensures { λ s. ⌜ Put (recordIn 11 (now (b .entry))) (now (rest .entry)) (now (o .entry)) s (now (o .exit)) ⌝ }
 {
     let s = sheet_walk::scatterers_behind(b);
     let each = hrr::each_of(s);
@@ -264,15 +278,78 @@ fn put_scatterers(b: &[u8], rest: &[u8], o: &mut [u8]) -> Step
     }
 }
 
-// What a record adds to the packet, with the scatterers behind it.
+// The bytes of so many full pieces, which rest begins with: each straight from the sheet.
+fn put_full_pieces(rest: &[u8], count: usize, o: &mut [u8])
+    requires { ⌜ (count * recordLength 6 ≤ length (now rest)) × (count * 32 ≤ length (now o)) ⌝ }
+    ensures { λ _. ⌜ now (o .exit) ≡ sets (now (o .entry)) 0 (carriedAll count (now (rest .entry))) ⌝ }
+{
+    let mut from = 1 + format::PieceRecord::BYTES;
+    let mut to = 0;
+    for i in 0..count {
+        copies::copy32(rest, from, o, to);
+        from += format::PieceRecord::WHOLE;
+        to += format::PieceRecord::FULL;
+    }
+}
+
+// How many bytes the pieces carry behind a record of kind 5 or 7.
+fn in_pieces(kind: u8, b: &[u8]) -> u32
+    requires { ⌜ (length (now b) ≡ bodyLength kind) × ((kind ≡ 5) ⊎ (kind ≡ 7)) ⌝ }
+    ensures { λ n. ⌜ n ≡ calledFor (recordIn kind (now (b .entry))) .left ⌝ }
+{
+    if kind == format::TextRecord::KIND {
+        octets::get_u32(b, format::TextRecord::F3_LENGTH)
+    } else {
+        octets::get_u32(b, format::OpaqueRecord::BODY_LENGTH)
+    }
+}
+
+// The full pieces that a record of kind 5 or 7 calls for, which rest begins with. One that is not full, the last, is put by itself.
+fn put_pieces(kind: u8, b: &[u8], rest: &[u8], o: &mut [u8]) -> Step
+    requires { ⌜ (length (now b) ≡ bodyLength kind) × ((kind ≡ 5) ⊎ (kind ≡ 7)) × Followed (recordIn kind (now b)) (now rest) (now o) ⌝ }
+    ensures { λ s. ⌜ Put (recordIn kind (now (b .entry))) (now (rest .entry)) (now (o .entry)) s (now (o .exit)) ⌝ }
+{
+    let full = in_pieces(kind, b) as usize / format::PieceRecord::FULL;
+    put_full_pieces(rest, full, o);
+    Step {
+        read: full * format::PieceRecord::WHOLE,
+        written: full * format::PieceRecord::FULL,
+    }
+}
+
+// Whether a record of the kind has a row of records behind it that is put at once: pieces or scatterers.
+fn leads_row(kind: u8) -> bool
+    ensures { λ r. ⌜ r ≡ (eqb kind 5 || eqb kind 7 || eqb kind 11) ⌝ }
+{
+    if kind == format::TextRecord::KIND {
+        return true;
+    }
+    if kind == format::OpaqueRecord::KIND {
+        return true;
+    }
+    kind == format::HrrRecord::KIND
+}
+
+// That row, which rest begins with.
+fn put_row(kind: u8, b: &[u8], rest: &[u8], o: &mut [u8]) -> Step
+    requires { ⌜ (length (now b) ≡ bodyLength kind) × ((eqb kind 5 || eqb kind 7 || eqb kind 11) ≡ true) × Followed (recordIn kind (now b)) (now rest) (now o) ⌝ }
+    ensures { λ s. ⌜ Put (recordIn kind (now (b .entry))) (now (rest .entry)) (now (o .entry)) s (now (o .exit)) ⌝ }
+{
+    if kind == format::HrrRecord::KIND {
+        return put_scatterers(b, rest, o);
+    }
+    put_pieces(kind, b, rest, o)
+}
+
+// What a record adds to the packet, with the row behind it.
 fn put_next(kind: u8, leader: &[u8], b: &[u8], rest: &[u8], o: &mut [u8]) -> Step
     requires { ⌜ SpellableNext (now leader) (recordIn kind (now b)) (now rest) × (length (speltNext (leading (now leader)) (recordIn kind (now b)) (now rest)) ≤ length (now o)) ⌝ }
     ensures { λ s. ⌜ (s .read ≡ readNext (recordIn kind (now (b .entry)))) × (s .written ≡ length (speltNext (leading (now (leader .entry))) (recordIn kind (now (b .entry))) (now (rest .entry)))) ⌝ }
     ensures { λ _. ⌜ now (o .exit) ≡ sets (now (o .entry)) 0 (speltNext (leading (now (leader .entry))) (recordIn kind (now (b .entry))) (now (rest .entry))) ⌝ }
 {
     let n = put_record(kind, leader, b, o);
-    if kind == format::HrrRecord::KIND {
-        let behind = put_scatterers(b, rest, &mut o[n..]);
+    if leads_row(kind) {
+        let behind = put_row(kind, b, rest, &mut o[n..]);
         return Step {
             read: behind.read,
             written: n + behind.written,

@@ -3,7 +3,7 @@
 use Prim.Native.Nat.{_-_, _≤_}
 use native.Mathlib.Omega.{arith}
 use mathlib.Core.Path.{_≡_, refl, sym, ap, ap₂, _∙_}
-use mathlib.Core.Bool.{Bool, true, false, _&&_, cond}
+use mathlib.Core.Bool.{Bool, cond}
 use mathlib.Core.List.{List}
 use Prim.Native.Nat.{ℕ}
 use denote.Ref.{now}
@@ -13,16 +13,10 @@ use lib.ListN.{length, getD, take}
 use lib.Seq.{take-all}
 use Rattle.format.specs.Writer.{isSame}
 use Rattle.format.proofs.Sameness.{same-not, same-more}
+use Rattle.sheet_walk.proofs.Gathered.{or-is, is-zero}
 use borrow.Author.Needs.{needs}
 use Rattle.readback.proofs.same.Statement.{statement}
 use Rattle.readback.proofs.same.Tie as tie
-
--- two tests, each 0 where it holds and else 1, gathered in a byte
-or-is : (b c : Bool) → bitOr (cond b 0 1) (cond c 0 1) ≡ cond (b && c) 0 1
-or-is true true = refl
-or-is true false = refl
-or-is false true = refl
-or-is false false = refl
 
 abbrev Inv-loop : tie.InvT-loop
 Inv-loop a b seen₀ i₀ i-end seen i = (i-end ≡ length a) × (length a ≡ length b) × (i ≤ length a) × (seen ≡ cond (isSame (take i a) (take i b)) 0 1)
@@ -49,11 +43,6 @@ loop-again c =
           ∙ or-is (isSame (take (l .i) (now (s .a))) (take (l .i) (now (s .b)))) (eqb (getD (now (s .a)) (l .i) 0) (getD (now (s .b)) (l .i) 0))
           ∙ ap (λ (t : Bool). cond t 0 1) (sym (same-more (now (s .a)) (now (s .b)) (l .i) (omega (arith, l .inv .0, t)) (omega (arith, l .inv .0, l .inv .1, t)))),
     )
-
--- the byte is zero where the test holds
-is-zero : (b : Bool) → eqb (cond b 0 1) 0 ≡ b
-is-zero true = refl
-is-zero false = refl
 
 returns-2 : tie.Need-returns-2 Inv-loop μ-loop
 returns-2 c =

@@ -12,7 +12,7 @@ returns c =
     let zeros = c .before .before .before .before .before .before in
     let count = zeros .before .before .before .before in
     let kind = count .before .before .before .before in let a = kind .before .before .before .before .args in
-    last-laid (now (a .b)) (now (a .o)) (omega arith) (kind .put-byte .ensures) (count .put-byte2 .ensures) (zeros .clear32 .ensures) (c .before .before .copy-all .ensures)
+    last-laid (now (a .b)) (now (a .o)) (omega arith) (kind .put-byte .ensures) (count .put-byte2 .ensures) (zeros .clear32 .ensures) (c .before .before .copy-to-32 .ensures)
 
 pub last-piece-spec : {M : Type 1} → statement M
 last-piece-spec =

@@ -12,29 +12,29 @@ use lib.ListN.{drop, length-drop}
 use Rattle.octets.proofs.Parts.{tail-is}
 use Rattle.format.specs.Lengths.{recordLength}
 use Rattle.sheet_walk.specs.InnerShape.{BeginsWith}
-use Rattle.sheet_walk.proofs.Runs.{joined, parted}
+use Rattle.sheet_walk.proofs.Runs.{none, joined, parted}
 use Rattle.sheet_walk.proofs.are_fours.Statement.{statement}
 use Rattle.sheet_walk.proofs.are_fours.Tie as tie
 
 abbrev Inv-loop : tie.InvT-loop
-Inv-loop x n at₀ i₀ at i = (i ≤ n) × (at ≡ i * 4 * recordLength 12) × BeginsWith (i * 4) x
+Inv-loop x n at₀ i₀ at i = (i ≤ n) × (at ≡ i * 4 * recordLength 12) × BeginsWith 12 (i * 4) x
 
 abbrev μ-loop : tie.MeasureT-loop
 μ-loop x n at₀ i₀ at i = n - i
 
 loop-holds : tie.Need-loop-holds Inv-loop μ-loop
-loop-holds c = (omega arith, refl, record { long = omega arith; kinds = λ j h. absurd (omega arith) })
+loop-holds c = (omega arith, refl, none 12 (now (c .before .args .x)))
 
 -- four more after those passed, and the four of a turn among all
-one-turn : (x : List ℕ) (i at : ℕ) → at ≡ i * 4 * recordLength 12 → BeginsWith (i * 4) x → BeginsWith 4 (drop at x) → BeginsWith ((i + 1) * 4) x
+one-turn : (x : List ℕ) (i at : ℕ) → at ≡ i * 4 * recordLength 12 → BeginsWith 12 (i * 4) x → BeginsWith 12 4 (drop at x) → BeginsWith 12 ((i + 1) * 4) x
 one-turn x i at e w f =
     let all : i * 4 + 4 ≡ (i + 1) * 4 = omega arith in
-    rw all at (joined (i * 4) 4 x w (rw e at f))
+    rw all at (joined 12 (i * 4) 4 x w (rw e at f))
 
-of-turn : (x : List ℕ) (n i at : ℕ) → i < n → at ≡ i * 4 * recordLength 12 → BeginsWith (n * 4) x → BeginsWith 4 (drop at x)
+of-turn : (x : List ℕ) (n i at : ℕ) → i < n → at ≡ i * 4 * recordLength 12 → BeginsWith 12 (n * 4) x → BeginsWith 12 4 (drop at x)
 of-turn x n i at l e w =
     let all : n * 4 ≡ i * 4 + (4 + (n - i - 1) * 4) = omega arith in
-    rw e (parted 4 ((n - i - 1) * 4) (drop (i * 4 * recordLength 12) x) (parted (i * 4) (4 + (n - i - 1) * 4) x (rw all at w) .1) .0)
+    rw e (parted 12 4 ((n - i - 1) * 4) (drop (i * 4 * recordLength 12) x) (parted 12 (i * 4) (4 + (n - i - 1) * 4) x (rw all at w) .1) .0)
 
 are-four-requires : tie.Need-are-four-requires Inv-loop μ-loop
 are-four-requires c κs =

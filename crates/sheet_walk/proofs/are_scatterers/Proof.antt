@@ -31,7 +31,7 @@ returns-2 c =
     let s = c .before .before .before .before in
     let n = s .args .count in (
       λ e. absurd (true≢false (sym e)),
-      λ b. absurd (true≢false (sym (c .before .are-fours .ensures .1 (parted (n / 4 * 4) (n % 4) (now (s .args .x)) (rw (sym (all-of n)) at b) .0)) ∙ not-true _ (c .if2 .taken))),
+      λ b. absurd (true≢false (sym (c .before .are-fours .ensures .1 (parted 12 (n / 4 * 4) (n % 4) (now (s .args .x)) (rw (sym (all-of n)) at b) .0)) ∙ not-true _ (c .if2 .taken))),
     )
 
 returns-3 : tie.Need-returns-3
@@ -42,8 +42,8 @@ returns-3 c =
     let place : n / 4 * (4 * recordLength 12) ≡ n / 4 * 4 * recordLength 12 = omega arith in
     let few = c .are-few .ensures in
     let tail = rest x place in (
-      λ e. rw (all-of n) at (joined (n / 4 * 4) (n % 4) x (c .before .before .before .are-fours .ensures .0 (not-false _ (c .before .before .if2 .left))) (rw tail at (few .0 e))),
-      λ b. few .1 (rw tail (parted (n / 4 * 4) (n % 4) x (rw (sym (all-of n)) at b) .1)),
+      λ e. rw (all-of n) at (joined 12 (n / 4 * 4) (n % 4) x (c .before .before .before .are-fours .ensures .0 (not-false _ (c .before .before .if2 .left))) (rw tail at (few .0 e))),
+      λ b. few .1 (rw tail (parted 12 (n / 4 * 4) (n % 4) x (rw (sym (all-of n)) at b) .1)),
     )
 
 pub are-scatterers-spec : {M : Type 1} → statement M

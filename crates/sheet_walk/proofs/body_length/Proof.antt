@@ -19,7 +19,7 @@ returns-2 c = (sym (ap bodyLength (c .if2 .taken)), omega arith)
 
 returns-3 : tie.Need-returns-3
 unfolding bodyLength
-returns-3 c = (c .wide .ensures, omega (arith, c .wide .ensures, body-bound (c .before .before .before .before .args .kind)))
+returns-3 c = (c .wide .ensures .0, omega (arith, c .wide .ensures, body-bound (c .before .before .before .before .args .kind)))
 
 returns-4 : tie.Need-returns-4
 unfolding bodyLength

@@ -13,7 +13,7 @@ unfolding bodyLength
 shared-slice-read-wide c = omega (arith, c .before .before .before .pre ∙ ap bodyLength (c .before .if1 .taken))
 
 returns : tie.Need-returns
-returns c = rw (c .before .before .if1 .taken) (c .wide .ensures)
+returns c = rw (c .before .before .if1 .taken) (c .wide .ensures .0)
 
 returns-2 : tie.Need-returns-2
 returns-2 c = rw (ne-eqb _ 6 (c .if1 .left))

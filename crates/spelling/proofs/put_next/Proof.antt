@@ -1,94 +1,105 @@
--- `spelling::put_next` meets its contract. What the record gives, and behind one of kind 11, in the part that is left, what the scatterers give.
+-- `spelling::put_next` meets its contract. What the record gives and, in the part that is left, what its row gives.
 -- Assumes nothing.
 use borrow.Author.Needs.{needs}
 use mathlib.Core.Path.{_≡_, sym, ap, _∙_}
-use mathlib.Core.List.{List, _++_}
+use mathlib.Core.List.{List}
 use Prim.Native.Nat.{ℕ, _+_, _≤_}
 use native.Mathlib.Omega.{arith}
 use denote.Ref.{now}
-use lib.ListN.{length, length-append, length-drop}
+use lib.ListN.{length, length-drop}
 use lib.Seq.{sets}
 use Rattle.octets.proofs.Laws.{then}
 use Rattle.octets.proofs.Parts.{tail-is, part-filled}
-use Rattle.format.specs.Sheet.{bodyLength}
-use Rattle.spelling.specs.InnerSpelling.{spelt, scattered, speltNext, recordIn, leading}
-use Rattle.spelling.proofs.Nexts.{next-length, hrr-next, hrr-read, other-next, other-read}
+use Rattle.format.specs.Sheet.{Record}
+use Rattle.spelling.specs.InnerSpelling.{spelt, givenInRow, recordIn, leading}
+use Rattle.spelling.proofs.Nexts.{next-is, next-length, alone-next, alone-read, no-row}
 use Rattle.spelling.proofs.put_next.Statement.{statement}
 use Rattle.spelling.proofs.put_next.Tie as tie
 
--- what the record gives, and what the scatterers
+-- what the record gives, and what its row
 module _ (s : tie.Start) where
+  abbrev record-of : Record
+  record-of = recordIn (s .args .kind) (now (s .args .b))
+
   abbrev first : List ℕ
-  first = spelt (leading (now (s .args .leader))) (recordIn (s .args .kind) (now (s .args .b)))
+  first = spelt (leading (now (s .args .leader))) record-of
 
   abbrev behind : List ℕ
-  behind = scattered (now (s .args .b)) (now (s .args .rest))
+  behind = givenInRow record-of (now (s .args .rest))
 
-  -- with a record of kind 11 both have room
-  module _ (e : s .args .kind ≡ 11) where
-    both : first ++ behind ≡ speltNext (leading (now (s .args .leader))) (recordIn (s .args .kind) (now (s .args .b))) (now (s .args .rest))
-    both = hrr-next (now (s .args .leader)) (s .args .kind) (now (s .args .b)) (now (s .args .rest)) e
-
-    room : length first + length behind ≤ length (now (s .args .o))
-    room = omega (arith, s .pre .1, length-append first behind, ap length both)
+  -- both have room
+  room : length first + length behind ≤ length (now (s .args .o))
+  room = omega (arith, s .pre .1, next-length (leading (now (s .args .leader))) record-of (now (s .args .rest)))
 
 put-record-requires : tie.Need-put-record-requires
 put-record-requires c κs =
     let s = c .before .before .before .before .before in
-    (s .pre .0 .0, omega (arith, next-length (now (s .args .leader)) (s .args .kind) (now (s .args .b)) (now (s .args .rest)), s .pre .1))
+    (s .pre .0 .0, omega (arith, room s))
 
-sub-put-scatterers : tie.Need-sub-put-scatterers
-sub-put-scatterers c =
-    let put = c .before .before .before in
-    omega (arith, room (c .before .before .before .before .before .before .before .before .before) (c .if1 .taken), put .put-record .ensures .0, put .put-record .kept .1 .1 .1 .0)
+-- the row's part of o
+sub-put-row : tie.Need-sub-put-row
+sub-put-row c =
+    let put = c .before .before .before .before .put-record in
+    omega (arith, room (c .before .before .before .before .before .before .before .before .before .before), put .ensures .0, put .kept .1 .1 .1 .0)
 
-part-put-scatterers-start : tie.Need-part-put-scatterers-start
-part-put-scatterers-start c =
-    let put = c .before .before .before in
-    omega (arith, room (c .before .before .before .before .before .before .before .before .before) (c .if1 .taken), put .put-record .ensures .0, put .put-record .kept .1 .1 .1 .0)
+part-put-row-start : tie.Need-part-put-row-start
+part-put-row-start c =
+    let put = c .before .before .before .before .put-record in
+    omega (arith, room (c .before .before .before .before .before .before .before .before .before .before), put .ensures .0, put .kept .1 .1 .1 .0)
 
-put-scatterers-requires : tie.Need-put-scatterers-requires
-put-scatterers-requires c κs =
-    let e = c .before .if1 .taken in
-    let put = c .before .before .before .before in
-    let s = c .before .before .before .before .before .before .before .before .before .before in
-    let o = put .put-record .last .1 .1 .1 .0 in (
-      s .pre .0 .0 .0 ∙ ap bodyLength e,
-      s .pre .0 .1 e,
-      rw (tail-is (put .put-record .result) o, length-drop) (omega (arith, room s e, put .put-record .ensures .0, put .put-record .kept .1 .1 .1 .0)),
+put-row-requires : tie.Need-put-row-requires
+put-row-requires c κs =
+    let put = c .before .before .before .before .before .put-record in
+    let s = c .before .before .before .before .before .before .before .before .before .before .before in
+    let o = put .last .1 .1 .1 .0 in (
+      s .pre .0 .0 .0,
+      sym (c .before .before .leads-row .ensures) ∙ c .before .if1 .taken,
+      (s .pre .0 .1, rw (tail-is (put .result) o, length-drop) (omega (arith, room s, put .ensures .0, put .kept .1 .1 .1 .0))),
     )
 
-add-t12 : tie.Need-add-t12
-add-t12 c =
-    let s = c .before .before .before .before .before .before .before .before .before .before .before .before .before .before in
-    omega (arith, room s (c .before .before .before .before .before .if1 .taken), c .before .before .before .before .before .before .before .before .put-record .ensures .0, c .before .before .before .put-scatterers .ensures .0 .1, s .good)
+add-written : tie.Need-add-t12
+add-written c =
+    let put = c .before .before .before .before .before .before .before .before .before .put-record in
+    let s = c .before .before .before .before .before .before .before .before .before .before .before .before .before .before .before in
+    omega (arith, room s, put .ensures .0, c .before .before .before .put-row .ensures .written-is, s .good)
 
 returns : tie.Need-returns
 returns c =
-    let s = c .before .before .before .before .before .before .before .before .before .before .before .before .before .before in
-    let e = c .before .before .before .before .before .if1 .taken in
-    let put = c .before .before .before .before .before .before .before .before .put-record in
-    let stored = c .before .before .before .put-scatterers in
+    let put = c .before .before .before .before .before .before .before .before .before .put-record in
+    let s = c .before .before .before .before .before .before .before .before .before .before .before .before .before .before .before in
+    let row = c .before .before .before .put-row .ensures in
     let n = put .result in
     let o = put .last .1 .1 .1 .0 in
     let start : n ≡ 0 + n = omega arith in
-    let filled = part-filled o (behind s) n (stored .ensures .1) in (
-      (stored .ensures .0 .0 ∙ hrr-read (s .args .kind) (now (s .args .b)) e, omega (arith, put .ensures .0, stored .ensures .0 .1, length-append (first s) (behind s), ap length (both s e))),
-      then (first s) (behind s) (now (s .args .o)) 0 n (put .ensures .1) (sym (put .ensures .0)) (filled ∙ ap (λ (i : ℕ). sets o i (behind s)) start)
-          ∙ ap (sets (now (s .args .o)) 0) (both s e),
+    let leader = leading (now (s .args .leader)) in (
+      (row .read-is, omega (arith, put .ensures .0, row .written-is, next-length leader (record-of s) (now (s .args .rest)))),
+      then (first s) (behind s) (now (s .args .o)) 0 n (put .ensures .1) (sym (put .ensures .0)) (part-filled o (behind s) n (row .stored) ∙ ap (λ (i : ℕ). sets o i (behind s)) start)
+          ∙ ap (sets (now (s .args .o)) 0) (next-is leader (record-of s) (now (s .args .rest))),
     )
 
 returns-2 : tie.Need-returns-2
 returns-2 c =
-    let s = c .before .before .before .before .before .before .before .before .before in
-    let put = c .before .before .before .put-record in
-    let a = s .args in
-    let e = other-next (now (a .leader)) (a .kind) (now (a .b)) (now (a .rest)) (c .if1 .left) in (
-      (other-read (a .kind) (now (a .b)) (c .if1 .left), put .ensures .0 ∙ ap length e),
-      put .ensures .1 ∙ ap (sets (now (a .o)) 0) e,
+    let put = c .before .before .before .before .put-record in
+    let s = c .before .before .before .before .before .before .before .before .before .before in
+    let leader = leading (now (s .args .leader)) in
+    let none = no-row (s .args .kind) (now (s .args .b)) (sym (c .before .leads-row .ensures) ∙ c .if1 .left) in
+    let e = alone-next leader (record-of s) (now (s .args .rest)) none in (
+      (alone-read leader (record-of s) (now (s .args .rest)) none, put .ensures .0 ∙ ap length e),
+      put .ensures .1 ∙ ap (sets (now (s .args .o)) 0) e,
     )
 
 pub put-next-spec : {M : Type 1} → statement M
 put-next-spec =
     tie.close
-    (tie.spec put-record-requires sub-put-scatterers part-put-scatterers-start (λ c. search needs) put-scatterers-requires add-t12 (λ c. search needs) returns (λ c. search needs) returns-2)
+    (tie.spec
+    put-record-requires
+    (λ c κs. search needs)
+    sub-put-row
+    part-put-row-start
+    (λ c. search needs)
+    put-row-requires
+    add-written
+    (λ c. search needs)
+    returns
+    (λ c. search needs)
+    returns-2)

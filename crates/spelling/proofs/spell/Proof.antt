@@ -122,7 +122,7 @@ put-next-requires c κs =
     let t = c .before .before .before .before in
     let l = t .before .before .before .before .loop in
     let behind = tail-is (t .before .kind .given .0 .1 .0) (now (t .before .before .before .before .before .before .before .before .before .before .before .args .x)) in (
-      (spellable _ _ _ _ _ _ _ (l .inv) _ _ (here t), λ e. rw behind (begins-with _ _ _ _ _ _ _ (l .inv) _ _ (here t) e)),
+      (spellable _ _ _ _ _ _ _ (l .inv) _ _ (here t), rw behind (begins-with _ _ _ _ _ _ _ (l .inv) _ _ (here t))),
       rw (tail-is (l .to) (l .o), length-drop, behind) (omega (arith, room t)),
     )
 

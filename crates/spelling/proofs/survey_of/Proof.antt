@@ -6,10 +6,9 @@ use native.Mathlib.Omega.{arith}
 use mathlib.Core.Path.{sym, _∙_}
 use Prim.Native.Nat.{_+_, _-_, _*_, _≤_, _<_}
 use denote.Ref.{now}
-use lib.ListN.{length, drop, length-drop}
-use Rattle.format.specs.Lengths.{recordLength}
+use lib.ListN.{length}
 use Rattle.sheet_walk.proofs.Places.{WholeAt, at-place}
-use Rattle.spelling.proofs.Surveyed.{Walked, no-header, start, at-end, at-cut, again, onward, turn, passed-bound, past-passed}
+use Rattle.spelling.proofs.Surveyed.{Walked, no-header, start, at-end, at-cut, again, onward, turn, past-passed}
 use Rattle.spelling.proofs.survey_of.Statement.{statement}
 use Rattle.spelling.proofs.survey_of.Tie as tie
 
@@ -93,25 +92,11 @@ loop-again c = behind (c .before)
 passed-requires : tie.Need-passed-requires Inv-loop μ-loop
 passed-requires c κs = here (c .before .before .before .before .before .before .before) .fits
 
--- what is passed at once lies within the sheet
-passes : (c : tie.After-passed Inv-loop μ-loop) → let x = now (c .before .before .before .before .before .before .before .before .before .before .before .before .before .before .before .before .args .x) in
-    (c .passed .result ≤ c .before .before .before .f .given .0 .1 .0) × (c .passed .result * recordLength 12 ≤ length (drop (c .before .before .before .before .before .before .before .before .before .kind .given .0 .1 .0) x))
-passes c = passed-bound (c .passed .ensures)
-
-within : (c : tie.After-passed Inv-loop μ-loop) → let end = c .before .before .before .before .before .before .before .before .before .kind .given .0 .1 .0 in
-    (c .before .before .before .before .before .before .before .before .before .before .before .before .loop .at < end) × (end + c .passed .result * recordLength 12 ≤ length (now (c .before .before .before .before .before .before .before .before .before .before .before .before .before .before .before .before .args .x)))
-within c =
-    let h = here (c .before .before .before .before .before .before .before .before) in
-    (h .within, omega (arith, passes c .1, h .fits, length-drop (c .before .before .before .before .before .before .before .before .before .kind .given .0 .1 .0) (now (c .before .before .before .before .before .before .before .before .before .before .before .before .before .before .before .before .args .x))))
-
-mul-at : tie.Need-mul-at Inv-loop μ-loop
-mul-at c = omega (arith, within c .1, c .before .before .before .before .before .before .before .before .before .before .before .before .before .before .before .before .good)
-
-add-at : tie.Need-add-at Inv-loop μ-loop
-add-at c = omega (arith, within c .1, c .before .before .before .before .before .before .before .before .before .before .before .before .before .before .before .before .good)
-
+-- how far it goes at once
 loop-less-2 : tie.Need-loop-less-2 Inv-loop μ-loop
-loop-less-2 c = omega (arith, within c .0, within c .1)
+loop-less-2 c =
+    let h = here (c .before .before .before .before .before .before .before .before) in
+    omega (arith, h .within, h .fits, c .passed .ensures .1)
 
 loop-again-2 : tie.Need-loop-again-2 Inv-loop μ-loop
 loop-again-2 c = past-passed _ _ _ _ _ _ (here (c .before .before .before .before .before .before .before .before) .fits) (behind (c .before .before)) (c .passed .ensures)
@@ -145,8 +130,5 @@ survey-of-spec =
     loop-less
     loop-again
     passed-requires
-    (λ c. passes c .0)
-    mul-at
-    add-at
     loop-less-2
     loop-again-2)
