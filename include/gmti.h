@@ -1,10 +1,11 @@
 /* GMTI packets (STANAG 4607, Editions 1 and 3): one packet to one sheet and back.
  *
- * Link libgmti.a, which `rt staticlib gmti` proves and builds for x86-64. docs/MANUAL.md explains the sheet and the refusals.
+ * Link libgmti.a, which `rt staticlib gmti` proves and builds for x86-64. docs/MANUAL.md explains the sheet and the refusals, and lists the
+ * systems of radar modes.
  *
  * gmti_read and gmti_write take any bytes. What the caller must see to:
  * - A pointer leads to as many bytes as its length says. It may be null only where its length is 0.
- * - `answer` leads to seven numbers.
+ * - `answer` leads to seven numbers, `system` to one.
  * - No two of the runs of bytes and the answer overlap.
  * The library keeps no pointer and no state, so threads may call side by side.
  */
@@ -49,6 +50,10 @@ void gmti_write(const uint8_t *sheet, size_t sheet_length, uint8_t *packet, size
  * bytes are. It is 33 + 45 * (packet_length - 32) / 4, rounded down; 0 for a length under 32 or above GMTI_LONGEST_PACKET, which no packet
  * has. */
 size_t gmti_sheet_bound(size_t packet_length);
+
+/* Stores the number of the system to which an edition's table 2-7.2 gives a radar mode, a value of J14: 1 to 12, or 0 where it is given to
+ * none. Returns 0; for an edition that is neither 1 nor 3 it stores 0 and returns 23, the number of its only refusal. */
+uint32_t gmti_mode_system(uint32_t edition, uint8_t mode, uint32_t *system);
 
 #ifdef __cplusplus
 }

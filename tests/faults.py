@@ -1,4 +1,4 @@
-"""Tries faults of the system on the six programs: reads and writes that fail, are interrupted, come late or in pieces.
+"""Tries faults of the system on the seven programs: reads and writes that fail, are interrupted, late or in pieces.
 
     python3 tests/faults.py [FOLDER]        FOLDER has the programs; without it, target/bin of this repository
 
@@ -37,7 +37,8 @@ COPIES = 480  # segments of a long packet: its sheet still fits the 65,536 bytes
 LINES = 3000  # of a long list
 LINE_SIZE = 10_000  # bytes that a line of it has at most: those of full packets would make it some 25 MB long
 LONGEST_PACKET = 65_536
-LONGEST_LINE = 262_144  # with its line feed
+LONGEST_LINE = 262_144  # of a list of packets, with its line feed
+LONGEST_MODE = 4096  # of a list of modes, with its line feed
 
 # Stands between a program and the system. The environment sets it. FAULTS_STEP: a call moves at most so many bytes, and
 # every other call, from the first on, is interrupted. FAULTS_READ, FAULTS_WRITE: the call behind so many bytes fails,
@@ -151,15 +152,19 @@ class Program(NamedTuple):
     by_lines: bool  # whether each line has an answer of its own
 
     def whole(self) -> bytes:
-        """The whole packet or sheet, of a list the whole last packet: only what follows tells that it isn't the end."""
+        """The packet or sheet, of a list all but its last line feed: only what follows tells that it isn't the end."""
         return self.given.removesuffix(b"\n")
 
     def half(self) -> bytes:
-        """Half the packet or sheet, of a list half its last packet: taken for the end, it would have an answer."""
+        """Half the packet or sheet, of a list half its last packet or mode: taken for the end, it has an answer."""
         if not self.by_lines:
             return self.given[: len(self.given) // 2]
         digits = len(self.whole().split()[-1])
         return self.whole()[: -2 * (digits // 4)]
+
+    def lists_packets(self) -> bool:
+        """Whether each line is a name and a packet or sheet in hex."""
+        return self.name in ("gmti_trials", "gmti_editions")
 
 
 class Outcome(NamedTuple):
@@ -609,7 +614,7 @@ FAULTY_NUMBERS = [
 
 def faulty_lines(bench: Bench, program: Program) -> Iterator[Trial]:
     """A line that is not in its form has no verdict, and the lines before and behind it are answered as ever."""
-    if not program.by_lines:
+    if not program.lists_packets():
         return
     is_trials = program.name == "gmti_trials"
     digits = program.whole().split()[-1]
@@ -625,7 +630,7 @@ def between(bench: Bench, program: Program, fault: str, line: bytes, answer: byt
 
 def long_lines(bench: Bench, program: Program) -> Iterator[Trial]:
     """A line that the program has no room for is not read, not even its front; a line that just fits is read."""
-    if not program.by_lines:
+    if not program.lists_packets():
         return
     front = b"longs: 3 0 " if program.name == "gmti_trials" else b"longs: "
     refused = b"longs: no 2 0 0 " if program.name == "gmti_trials" else b"longs: no 2 0 0"
@@ -652,13 +657,91 @@ def long_lines(bench: Bench, program: Program) -> Iterator[Trial]:
 
 def spelling(bench: Bench, program: Program) -> Iterator[Trial]:
     """What does not change a line's meaning: capital hex digits, and no line feed behind the last line."""
-    if not program.by_lines:
+    if not program.lists_packets():
         return
     lines, answers = listed(program.name)
     halves = [line.rpartition(b" ") for line in lines]
     capitals = b"".join(front + space + digits.upper() for front, space, digits in halves)
     yield answered("capital hex digits", b"".join(answers), run(bench, program, capitals))
     yield answered("no line feed at the end", program.answer, run(bench, program, program.whole()))
+
+
+# ---- The numbers that gmti_modes reads
+
+
+BAD_MODES = [
+    ("an empty line", b""),
+    ("a carriage return alone", b"\r"),
+    ("a carriage return behind a mode", b"101\r"),
+    ("a space in front", b" 101"),
+    ("a space behind", b"101 "),
+    ("a tab behind", b"101\t"),
+    ("a plus sign", b"+101"),
+    ("a minus sign", b"-101"),
+    ("a minus sign before 0", b"-0"),
+    ("one above the most", b"256"),
+    ("one above the most, with a zero in front", b"0256"),
+    ("256 above a mode", b"357"),
+    ("65,536 above a mode", b"65637"),
+    ("2 to the 32 above a mode", b"4294967397"),
+    ("2 to the 64 above a mode", b"18446744073709551717"),
+    ("20 digits", b"1" * 20),
+    ("two modes on a line", b"101 102"),
+    ("modes with a comma", b"101,102"),
+    ("hex digits", b"0x65"),
+    ("a letter behind a mode", b"101x"),
+    ("a fraction", b"101.0"),
+    ("a power", b"1e2"),
+    ("a name", b"Lynx I/II"),
+    ("an answer", b"101: Edition 1 Reserved (0), Edition 3 Lynx I/II (10), new"),
+    ("the characters beside the digits", b"/:"),
+    ("a byte above 127", b"101\xb2"),
+    ("a byte that is a digit but for its highest bit", b"\xb5"),
+    ("the highest byte", b"\xff"),
+    ("a zero byte", b"\0"),
+    ("a zero byte in front", b"\x00101"),
+    ("a zero byte behind", b"101\0"),
+    ("all bytes but the line feed", bytes(byte for byte in range(256) if byte != ord("\n"))),
+]
+
+
+def modes(bench: Bench, program: Program) -> Iterator[Trial]:
+    """Digits alone, that spell 0 to 255, are a mode; every other line is said not to be, and the next is answered."""
+    if program.name != "gmti_modes":
+        return
+    given, answer = ((ROOT / "crates" / program.name / side).read_bytes() for side in ("stdin", "stdout"))
+    yield answered("the list", answer, run(bench, program, given))
+    yield answered("the list, with a line feed at its end", answer, run(bench, program, given + b"\n"))
+    yield answered("no line feed at the end", program.answer, run(bench, program, program.whole()))
+    for fault, line in BAD_MODES:
+        yield between(bench, program, fault, line, line + b": unread number")
+    bad = BAD_MODES[-1][1]
+    came = run(bench, program, program.given + bad)
+    yield answered("a line that is no mode at the end", program.answer + bad + b": unread number\n", came)
+
+
+def long_modes(bench: Bench, program: Program) -> Iterator[Trial]:
+    """A line that the program has no room for is told by its front, whatever it spells; one that just fits is read."""
+    if program.name != "gmti_modes":
+        return
+    answer = dict(zip(*listed(program.name)))[b"101\n"].removesuffix(b"\n")
+    fits, long = b"101".rjust(LONGEST_MODE - 1, b"0"), b"101".rjust(LONGEST_MODE, b"0")
+    yield between(bench, program, "the longest line", fits, fits.removesuffix(b"101") + answer)
+    bad = b"x" * (LONGEST_MODE - 1)
+    yield between(bench, program, "the longest line that is no mode", bad, bad + b": unread number")
+    for fault, line in (
+        ("a line that is a byte too long", long),
+        ("a long line", b"0" + long),
+        ("a line three times too long", b"101".rjust(3 * LONGEST_MODE, b"0")),
+        ("a line of 100,000 bytes", b"101".rjust(100_000, b"0")),
+        ("a long line that begins with a mode", b"101".ljust(LONGEST_MODE + 1)),
+        ("a long line whose end is a mode", b"x" * LONGEST_MODE + b"101"),
+        ("a long line of bytes above 127", b"\xff" * 5000),
+    ):
+        yield between(bench, program, fault, line, line[:LONGEST_MODE] + b": unread length")
+    yield between(bench, program, "two long lines", long + b"\n" + long, b"\n".join([long + b": unread length"] * 2))
+    came = run(bench, program, program.given + long)
+    yield answered("a long line at the end", program.answer + long + b": unread length\n", came)
 
 
 # ---- The number that gmti_longest reads
@@ -771,8 +854,8 @@ def bound(n: int) -> int:
 
 
 def lines_of(content: bytes) -> list[bytes]:
-    """Ended by line feeds alone: a carriage return may stand anywhere."""
-    return [line + b"\n" for line in content.split(b"\n")[:-1]]
+    """Ended by line feeds alone: a carriage return may stand anywhere. The last is given one where it has none."""
+    return [line + b"\n" for line in content.removesuffix(b"\n").split(b"\n")] if content else []
 
 
 def listed(name: str) -> tuple[list[bytes], list[bytes]]:
@@ -824,8 +907,19 @@ def list_program(name: str, last: bytes) -> Program:
     return Program(name, [], given, answer, answer * 2, b"", long[0], long[1], True)
 
 
+def modes_program() -> Program:
+    """A short list whose last mode is 255 behind two zeros: half of its digits are another mode. A long one has all."""
+    lines, answers = listed("gmti_modes")
+    pairs = dict(zip(lines, answers))
+    short = [b"0\n", b"91\n", b"101\n", b"00255\n"]
+    long = list(itertools.islice(itertools.cycle(lines), LINES))
+    given, long_given = b"".join(short), b"".join(long)
+    answer, long_answer = (b"".join(pairs[line] for line in side) for side in (short, long))
+    return Program("gmti_modes", [], given, answer, answer * 2, b"", long_given, long_answer, True)
+
+
 def programs() -> list[Program]:
-    """All get the trial packet of document 01, one dwell with one target, or its sheet, which the reading decides."""
+    """Those of packets get document 01's trial, one dwell with one target, or its sheet, which the reading decides."""
     trial = (ROOT / "samples" / "printed_trial.gmti").read_bytes()
     lines, answers = listed("gmti_trials")
     packet = last_word(named(lines, b"trial 92 bytes exact"))
@@ -844,6 +938,7 @@ def programs() -> list[Program]:
         longest_program(),
         list_program("gmti_trials", b"trial 92 bytes exact"),
         list_program("gmti_editions", b"trial"),
+        modes_program(),
     ]
 
 
@@ -864,6 +959,8 @@ FAULTS: list[Callable[[Bench, Program], Iterator[Trial]]] = [
     faulty_lines,
     long_lines,
     spelling,
+    modes,
+    long_modes,
     numbers,
     pipelines,
 ]

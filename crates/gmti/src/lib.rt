@@ -1,6 +1,6 @@
-// The library for C and Rust: both readings, the writer, and how long a sheet can get, exported under names of C. A slice is a pointer and a
-// length there, and an answer is room for seven numbers of 32 bits. Nothing is asked of the bytes that are handed in; that each pointer has as
-// many as its length says, and that lent memory lies apart from the rest, is the caller's care.
+// The library for C and Rust: both readings, the writer, how long a sheet can get, and the systems of radar modes, exported under names of C.
+// A slice is a pointer and a length there, and an answer is room for seven numbers of 32 bits. Nothing is asked of the bytes that are handed
+// in; that each pointer has as many as its length says, and that lent memory lies apart from the rest, is the caller's care.
 ghost use mathlib.Core.Path.{_≡_};
 ghost use Prim.Native.Nat.{ℕ, _^_, _<_};
 ghost use lib.ListN.{getD};
@@ -9,6 +9,7 @@ ghost use Rattle.format.specs.Answer.{numbersOf};
 ghost use Rattle.format.specs.Reader.{read as readOutcome};
 ghost use Rattle.format.specs.Bound.{sheetBound, EnoughFor};
 ghost use Rattle.format.specs.Writer.{write as writeOutcome};
+ghost use Rattle.modes.specs.Modes.{lookup, numberOf, systemOf};
 use format::Answer;
 
 // The seven numbers of an answer, in their order: number, segment, field, segments, dwells, targets, length. A caller in C takes 32 bits of each,
@@ -62,4 +63,16 @@ pub extern "C" fn gmti_sheet_bound(n: usize) -> usize
     ensures { λ r. ⌜ (r ≡ sheetBound n) × EnoughFor n r ⌝ }
 {
     bound::sheet_bound(n)
+}
+
+// The number of the system that an edition's table gives a radar mode, stored; answers 0, or 23 where the edition is neither 1 nor 3. For C:
+// uint32_t gmti_mode_system(uint32_t edition, uint8_t mode, uint32_t *system)
+#[no_mangle]
+pub extern "C" fn gmti_mode_system(edition: u32, mode: u8, system: &mut u32) -> u32
+    ensures { λ r. ⌜ r ≡ numberOf (lookup edition mode) ⌝ }
+    ensures { λ _. ⌜ now (system .exit) ≡ systemOf (lookup edition mode) ⌝ }
+{
+    let l = modes::mode_system(edition, mode);
+    *system = modes::system_of(l) as u32;
+    modes::number_of(l)
 }

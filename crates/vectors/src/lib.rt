@@ -209,7 +209,8 @@ fn put_fault(o: &mut [u8], at: usize, f: Fault) -> usize
     }
 }
 
-fn put_word(o: &mut [u8], at: usize, word: &[u8]) -> usize
+// A word, from `at` on in o; answers the place behind it.
+pub fn put_word(o: &mut [u8], at: usize, word: &[u8]) -> usize
     requires { ⌜ at + length (now word) ≤ length (now o) ⌝ }
     ensures { λ r. ⌜ r ≡ at + length (now (word .entry)) ⌝ }
     ensures { λ _. ⌜ now (o .exit) ≡ sets (now (o .entry)) at (now (word .entry)) ⌝ }

@@ -1,6 +1,6 @@
 //! GMTI packets (STANAG 4607, Editions 1 and 3): one packet to one sheet and back.
 //!
-//! [`read`], [`write()`] and [`sheet_bound`] call the verified library.
+//! [`read`], [`write()`], [`sheet_bound`] and [`mode_system`] call the verified library.
 #![warn(missing_docs)]
 
 mod answer;
@@ -11,6 +11,7 @@ extern "C" {
     fn gmti_read(edition: u32, packet: *const u8, packet_len: usize, sheet: *mut u8, sheet_len: usize, answer: *mut Answer);
     fn gmti_write(sheet: *const u8, sheet_len: usize, packet: *mut u8, packet_len: usize, answer: *mut Answer);
     fn gmti_sheet_bound(packet_len: usize) -> usize;
+    fn gmti_mode_system(edition: u32, mode: u8, system: *mut u32) -> u32;
 }
 
 /// No packet has more bytes than this.
@@ -55,4 +56,21 @@ pub fn write(sheet: &[u8], packet: &mut [u8]) -> Answer {
 pub fn sheet_bound(packet_length: usize) -> usize {
     // The call is handed no pointer, so nothing is asked of the caller.
     unsafe { gmti_sheet_bound(packet_length) }
+}
+
+/// The number of the system to which an edition's table 2-7.2 gives a radar mode, a value of J14: 1 to 12, or 0 where it is given to none.
+/// An edition that is neither 1 nor 3 is refused with 23, and nothing else is refused.
+///
+/// ```
+/// assert_eq!(gmti::mode_system(1, 101), Ok(0));
+/// assert_eq!(gmti::mode_system(3, 101), Ok(10)); // Lynx I/II
+/// assert_eq!(gmti::mode_system(2, 101), Err(23));
+/// ```
+pub fn mode_system(edition: u32, mode: u8) -> Result<u32, u32> {
+    let mut system = 0;
+    // The library writes the one number, and keeps no pointer.
+    match unsafe { gmti_mode_system(edition, mode, &mut system) } {
+        0 => Ok(system),
+        refusal => Err(refusal),
+    }
 }

@@ -37,6 +37,7 @@ fn main() {
     print_ratios(last);
     print_growth((rounds / 10).max(1));
     print_patterns((rounds / 10).max(1));
+    print_lookups(rounds);
 }
 
 /// The numbers of rounds and of runs.
@@ -448,6 +449,45 @@ fn print_patterns(rounds: usize) {
 fn patterns() -> impl Iterator<Item = Widths> {
     let indices = |magnitude, phase| [[0, 0], [0, 1], [1, 0], [1, 1]].map(|[range, doppler]| [magnitude, phase, range, doppler]);
     (1..=2).flat_map(move |magnitude| (0..=2).flat_map(move |phase| indices(magnitude, phase)))
+}
+
+/// The name of a lookup, and what looks a mode up.
+type Lookup = (&'static str, fn(u32, u8) -> Result<u32, u32>);
+
+const LOOKUPS: [Lookup; 2] = [("verified", gmti::mode_system), ("by hand", by_hand::mode_system)];
+
+/// How often all modes are looked up in a round.
+const LOOKED_UP: usize = 16;
+
+/// The nanoseconds of a lookup.
+fn time_lookups(edition: u32, look_up: impl Fn(u32, u8) -> Result<u32, u32>) -> f64 {
+    let begin = Instant::now();
+    for _ in 0..LOOKED_UP {
+        for mode in 0..=255 {
+            let _ = black_box(look_up(black_box(edition), black_box(mode)));
+        }
+    }
+    begin.elapsed().as_nanos() as f64 / (256 * LOOKED_UP) as f64
+}
+
+fn print_lookups(rounds: usize) {
+    println!("\n### Radar modes: each looked up, {rounds} rounds, ns a lookup\n");
+    print_head("Edition", &["verified, best", "median", "by hand, best", "median"]);
+    for edition in [1, 3, 2] {
+        let differs = (0..=255).any(|mode| LOOKUPS[0].1(edition, mode) != LOOKUPS[1].1(edition, mode));
+        if differs {
+            stop("radar modes", LOOKUPS[1].0, "another system");
+        }
+        let mut taken = [Vec::new(), Vec::new()];
+        for round in 0..rounds {
+            for turn in 0..2 {
+                let i = (round + turn) % 2;
+                taken[i].push(time_lookups(edition, LOOKUPS[i].1));
+            }
+        }
+        let cells = taken.map(best_and_median).map(|t| format!("{:.1} | {:.1}", t.best, t.median));
+        println!("| {edition} | {} |", cells.join(" | "));
+    }
 }
 
 /// The most that text may take, over the reader by hand; and writing it back, over reading it.

@@ -5,7 +5,7 @@ use gmti::Answer;
 use std::collections::BTreeMap;
 use std::fmt;
 
-/// One more than the greatest number of a row.
+/// One more than the greatest number that a reading or the writer answers.
 const ROWS: usize = 23;
 
 /// Counts of cases, calls, answers and records.

@@ -67,3 +67,12 @@ fn other_editions() {
         assert_eq!(compare(edition, &packet, 1000), Answer::refused(1, 0, 0));
     }
 }
+
+#[test]
+fn every_mode_of_some_editions() {
+    for edition in [0, 1, 2, 3, 4, 257, 259, u32::MAX] {
+        for mode in 0..=255 {
+            assert_eq!(by_hand::mode_system(edition, mode), gmti::mode_system(edition, mode), "edition {edition}, mode {mode}");
+        }
+    }
+}

@@ -1,5 +1,5 @@
 //! samples/each_packet.c, compiled against include/gmti.h and the library, prints what the independent implementation answers. The
-//! header's constants and its bound are those of the Rust package.
+//! header's constants and its bound are those of the Rust package, and its lookup of radar modes is the independent implementation's.
 use std::fs::{self, File};
 use std::path::{Path, PathBuf};
 use std::process::Command;
@@ -156,4 +156,41 @@ fn the_header_has_the_constants_and_the_bound_of_the_package() {
     assert_eq!(bounds, lengths.map(gmti::sheet_bound));
     assert_eq!(bounds, lengths.map(independent::sheet_bound));
     assert_eq!(bounds, [0, 0, 33, 44, 66, 78, 708, 736_941, 736_953, 0, 0]);
+}
+
+/// For every mode of each edition, prints what is returned and then three numbers, of which the second is stored. Before each call all three
+/// are one that no system has.
+const MODES: &str = r#"
+#include "gmti.h"
+#include <inttypes.h>
+#include <stdio.h>
+#include <stdlib.h>
+
+static void look_up(uint32_t edition, uint8_t mode) {
+    uint32_t lent[3] = {UINT32_MAX, UINT32_MAX, UINT32_MAX};
+    uint32_t number = gmti_mode_system(edition, mode, &lent[1]);
+    printf("%" PRIu32 " %" PRIu32 " %" PRIu32 " %" PRIu32 "\n", number, lent[0], lent[1], lent[2]);
+}
+
+int main(int count, char **words) {
+    for (int i = 1; i < count; i++)
+        for (int mode = 0; mode < 256; mode++)
+            look_up((uint32_t)strtoul(words[i], NULL, 10), (uint8_t)mode);
+    return 0;
+}
+"#;
+
+#[test]
+fn every_mode_is_looked_up() {
+    let editions = [0, 1, 2, 3, 4, 257, u32::MAX];
+    let source = Path::new(env!("CARGO_TARGET_TMPDIR")).join("modes.c");
+    fs::write(&source, MODES).unwrap();
+    let program = compiled(&source, "modes");
+    let output = Command::new(program).args(editions.map(|edition| edition.to_string())).output().unwrap();
+    let mut expected = String::new();
+    for (edition, mode) in editions.iter().flat_map(|edition| (0..=255).map(move |mode| (*edition, mode))) {
+        let (number, system) = independent::mode_system(edition, mode);
+        expected += &format!("{number} {} {system} {}\n", u32::MAX, u32::MAX);
+    }
+    assert_eq!(String::from_utf8(output.stdout).unwrap(), expected);
 }

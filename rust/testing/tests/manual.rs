@@ -1,8 +1,9 @@
-//! The tables of docs/MANUAL.md are held to the library: each field stands at its offset, and every refusal has its row.
+//! The tables of docs/MANUAL.md are held to the library: each field stands at its offset, every refusal has its row, and every radar mode has
+//! its systems.
 use gmti::Answer;
 use std::collections::{BTreeMap, BTreeSet};
 use std::fs;
-use testing::root;
+use testing::{independent, root};
 
 /// The length of the body of each kind, from kind 1 on, by document 01 and request A4.
 const BODY_LENGTHS: [usize; 12] = [32, 39, 87, 44, 24, 33, 5, 69, 14, 23, 66, 8];
@@ -370,10 +371,10 @@ fn pieces_stand_at_their_offsets() {
 }
 
 #[test]
-fn refusals_have_the_rows_1_to_22() {
+fn refusals_have_the_rows_1_to_23() {
     let rows = table("## Refusals");
     let numbers: Vec<_> = rows[2..].iter().map(|row| row[0].clone()).collect();
-    assert_eq!(numbers, (1..=22).map(|number: u32| number.to_string()).collect::<Vec<_>>());
+    assert_eq!(numbers, (1..=23).map(|number: u32| number.to_string()).collect::<Vec<_>>());
     assert!(rows[2..].iter().all(|row| row.len() == 4 && row.iter().all(|cell| !cell.is_empty())));
     let naming: Vec<_> = rows[2..].iter().filter(|row| row[2] != "0").map(|row| row[0].as_str()).collect();
     assert_eq!(naming, ["5", "10", "11", "13", "14", "15"]);
@@ -457,16 +458,70 @@ fn refusals_of_room_and_writer() -> Vec<Answer> {
     ]
 }
 
+/// The lookup of a mode's system answers a number alone, which by request A6 has segment and field 0.
+fn refusals_of_the_lookup() -> Vec<Answer> {
+    gmti::mode_system(2, 0).err().map(|number| Answer::refused(number, 0, 0)).into_iter().collect()
+}
+
 #[test]
 fn refusals_name_the_fields_that_their_rows_list() {
     let mut found: BTreeMap<u32, BTreeSet<u32>> = BTreeMap::new();
     let answers = [refusals_of_call_and_header(), refusals_of_segments_without_mask(), refusals_of_dwells()].concat();
-    for answer in [answers, refusals_of_hrr_segments(), refusals_of_edition_1(), refusals_of_room_and_writer()].concat() {
+    let answers = [answers, refusals_of_hrr_segments(), refusals_of_edition_1(), refusals_of_room_and_writer()].concat();
+    for answer in [answers, refusals_of_the_lookup()].concat() {
         found.entry(answer.number).or_default().insert(answer.field);
     }
     let numbers = |cell: &str| cell.split([' ', ',', ';']).filter_map(|word| word.parse().ok()).collect();
     let listed: BTreeMap<_, _> = table("## Refusals")[2..].iter().map(|row| (row[0].parse().unwrap(), numbers(&row[2]))).collect();
     assert_eq!(found, listed);
+}
+
+/// The modes of a cell: one, a first and a last with `to` between them, or `none`.
+fn modes(cell: &str) -> Vec<u8> {
+    let number = |word: &str| word.parse::<u8>().unwrap_or_else(|_| panic!("{cell}"));
+    match cell.split_once(" to ") {
+        Some((first, last)) => (number(first)..=number(last)).collect(),
+        None if cell == "none" => Vec::new(),
+        None => vec![number(cell)],
+    }
+}
+
+/// The system as a cell has it, number and name, or 0 alone.
+fn system(edition: u32, mode: u8) -> String {
+    let number = gmti::mode_system(edition, mode).unwrap();
+    let name = independent::system_name(number).map(|name| format!(" {name}")).unwrap_or_default();
+    format!("{number}{name}")
+}
+
+#[test]
+fn systems_have_their_modes() {
+    let rows = table("### Systems");
+    assert_eq!(rows[0], ["Number", "System", "Modes in Edition 1", "Modes in Edition 3"]);
+    assert_eq!(rows.len(), 2 + 12);
+    for (number, row) in (1..).zip(&rows[2..]) {
+        assert_eq!((row[0].as_str(), Some(row[1].as_str())), (number.to_string().as_str(), independent::system_name(number)));
+        for (edition, cell) in [(1, &row[2]), (3, &row[3])] {
+            let given: Vec<u8> = (0..=255).filter(|&mode| gmti::mode_system(edition, mode) == Ok(number)).collect();
+            assert_eq!(modes(cell), given, "system {number}, edition {edition}");
+        }
+    }
+}
+
+#[test]
+fn every_mode_has_its_systems() {
+    let rows = table("### Modes");
+    assert_eq!(rows[0], ["Mode", "System in Edition 1", "Mode in Edition 1", "System in Edition 3", "Mode in Edition 3", "New"]);
+    let mut listed = Vec::new();
+    for row in &rows[2..] {
+        for mode in modes(&row[0]) {
+            let new = if independent::is_new_mode(mode) { "new" } else { "" };
+            let due = [system(1, mode), system(3, mode), new.to_string()];
+            assert_eq!([&row[1], &row[3], &row[5]], due.each_ref(), "mode {mode}");
+            listed.push(mode);
+        }
+    }
+    listed.sort_unstable();
+    assert_eq!(listed, (0..=255).collect::<Vec<_>>());
 }
 
 #[test]

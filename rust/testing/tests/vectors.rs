@@ -4,7 +4,7 @@ use std::path::{Path, PathBuf};
 use std::process::{Command, Output};
 use testing::root;
 
-const PROGRAMS: [&str; 6] = ["gmti_trials", "gmti_editions", "gmti_read", "gmti_sheet", "gmti_write", "gmti_longest"];
+const PROGRAMS: [&str; 7] = ["gmti_trials", "gmti_editions", "gmti_read", "gmti_sheet", "gmti_write", "gmti_longest", "gmti_modes"];
 
 fn vectors(arguments: &[&Path]) -> Output {
     Command::new(env!("CARGO_BIN_EXE_vectors")).args(arguments).output().expect("the program starts")
@@ -38,16 +38,21 @@ fn files_are_up_to_date() {
             compared += 1;
         }
     }
-    assert_eq!(compared, 13);
+    assert_eq!(compared, 15);
 }
 
-/// One digit of one answer changed is found.
+/// A digit of one answer changed, or a word left out, is found.
 #[test]
 fn another_answer_is_found() {
     let folder = folder("changed");
     assert!(vectors(&[&folder]).status.success());
     assert!(vectors(&[Path::new("check"), &folder]).status.success());
-    for (program, right, wrong) in [("gmti_trials", "no 13 1 6", "no 13 1 7"), ("gmti_editions", "new no 15 1 49", "new no 15 1 48")] {
+    for (program, right, wrong) in [
+        ("gmti_trials", "no 13 1 6", "no 13 1 7"),
+        ("gmti_editions", "new no 15 1 49", "new no 15 1 48"),
+        ("gmti_modes", "Lynx I/II (10)", "Lynx I/II (11)"),
+        ("gmti_modes", "Reserved (0), not new", "Reserved (0), new"),
+    ] {
         let path = folder.join("crates").join(program).join("stdout");
         let answers = fs::read_to_string(&path).expect("the file is there");
         fs::write(&path, answers.replacen(right, wrong, 1)).expect("the file can be written");

@@ -4,18 +4,20 @@
 //! segments twice: the first walk tries every row and writes nothing, so that a refusal leaves the sheet as it was; the second sets the
 //! records out. Only dwells that are out of order take a further walk, to be counted. For targets it has a loop of its own, with all places
 //! constant, for each of the masks that are met most, and shifts bytes within words for the others; for scatterers it has a loop for each
-//! way in which their fields can be wide.
+//! way in which their fields can be wide. Beside it stands the lookup of a radar mode's system.
 mod check;
 mod dwells;
 mod fill;
 mod hrr;
 mod mask;
+mod modes;
 mod position;
 mod spread;
 mod targets;
 mod text;
 
 use gmti::Answer;
+pub use modes::mode_system;
 
 /// What bears on the rows and on the sheet, of the edition that is read as and of the packet's version.
 #[derive(Clone, Copy)]

@@ -3,7 +3,7 @@ use crate::editions::Editions;
 use crate::parts::{every_kind, packet, trial};
 use crate::trials::{Trial, Trials, LENT};
 use crate::verdict::{verdict, Implementation, INDEPENDENT};
-use crate::{lines, longest};
+use crate::{lines, longest, modes};
 use std::fmt::Write;
 use testing::generator::records::{sheet_of, split};
 
@@ -32,7 +32,7 @@ fn unhex(text: &str) -> Result<Vec<u8>, &'static str> {
 }
 
 /// The number that digits spell, if it is at most this, or the word for what is wrong with it.
-fn number(text: &str, most: usize) -> Result<usize, &'static str> {
+pub fn number(text: &str, most: usize) -> Result<usize, &'static str> {
     let is_number = !text.is_empty() && text.bytes().all(|c| c.is_ascii_digit());
     let value = if is_number { text.parse().ok() } else { None };
     value.filter(|value| *value <= most).ok_or("number")
@@ -73,6 +73,8 @@ pub fn all(trials: &Trials, editions: &Editions) -> Vec<File> {
         ("gmti_write/stdout", whole),
         ("gmti_longest/stdin", longest::GIVEN.to_vec()),
         ("gmti_longest/stdout", longest::written()),
+        ("gmti_modes/stdin", modes::given().into_bytes()),
+        ("gmti_modes/stdout", modes::lines().answers().into_bytes()),
     ]
 }
 

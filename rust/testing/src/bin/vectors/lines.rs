@@ -10,7 +10,8 @@ pub struct Lines {
 }
 
 impl Lines {
-    fn new(answer: fn(Implementation, &str) -> String, wanted: &[(&str, &str)]) -> Self {
+    /// The lines that are wanted, each with the answer that is due to it.
+    pub fn new(answer: fn(Implementation, &str) -> String, wanted: &[(&str, &str)]) -> Self {
         let mut lines = Lines { lines: Vec::new(), faults: Vec::new() };
         for (line, want) in wanted {
             let found = answer(INDEPENDENT, line);

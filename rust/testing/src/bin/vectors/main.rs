@@ -12,6 +12,7 @@ mod hrr;
 mod hrr_sheets;
 mod lines;
 mod longest;
+mod modes;
 mod newer;
 mod order;
 mod parts;
@@ -142,6 +143,7 @@ fn write(root: &Path) -> Vec<String> {
     let editions = editions::list();
     let mut faults = [&trials.faults[..], &editions.faults, &lines::trials().faults, &lines::editions().faults].concat();
     faults.extend(longest::faults());
+    faults.extend(modes::lines().faults);
     faults.extend(untried(&trials));
     faults
         .extend(trials.trials.iter().filter(|trial| trial.lent > files::MOST_LENT).map(|trial| format!("{}: lends too much", trial.name)));
@@ -195,10 +197,14 @@ fn untried(trials: &Trials) -> Vec<String> {
 /// What one implementation answers to a line.
 type Answering = fn(Implementation, &str) -> String;
 
-/// Holds every implementation to the answers that stand in the folder, the reader by hand to those of packets.
+/// The programs that answer line by line.
+const BY_LINES: [(&str, Answering); 3] =
+    [("gmti_trials", files::answer_trial), ("gmti_editions", files::answer_editions), ("gmti_modes", modes::answer)];
+
+/// Holds every implementation to the answers that stand in the folder, the reader by hand to those of packets and modes.
 fn check(root: &Path) -> Vec<String> {
     let mut faults = Vec::new();
-    for (name, answer) in [("gmti_trials", files::answer_trial as Answering), ("gmti_editions", files::answer_editions)] {
+    for (name, answer) in BY_LINES {
         let folder = root.join("crates").join(name);
         let read = |file: &str| fs::read_to_string(folder.join(file)).map_err(|error| format!("{name}/{file}: {error}"));
         match (read("stdin"), read("stdout")) {

@@ -1,20 +1,36 @@
-//! What a run of demand 3 on a packet finds, by each implementation.
+//! The implementations, and what a run of demand 3 on a packet finds by each.
 use gmti::{Answer, LONGEST_SHEET};
 use testing::{by_hand, independent};
 
-/// An implementation: its readings and its writer, or another's where it has none.
+/// An implementation: its readings, its lookup of a mode's system and its writer, or another's where it has none.
 #[derive(Clone, Copy)]
 pub struct Implementation {
     pub name: &'static str,
     pub read: fn(u32, &[u8], &mut [u8]) -> Answer,
+    pub mode_system: fn(u32, u8) -> Result<u32, u32>,
     pub write: fn(&[u8], &mut [u8]) -> Answer,
     pub has_writer: bool,
 }
 
 pub const INDEPENDENT: Implementation =
-    Implementation { name: "independent", read: independent::read, write: independent::write, has_writer: true };
-pub const VERIFIED: Implementation = Implementation { name: "verified", read: gmti::read, write: gmti::write, has_writer: true };
-pub const BY_HAND: Implementation = Implementation { name: "by hand", read: by_hand::read, write: independent::write, has_writer: false };
+    Implementation { name: "independent", read: independent::read, mode_system, write: independent::write, has_writer: true };
+pub const VERIFIED: Implementation =
+    Implementation { name: "verified", read: gmti::read, mode_system: gmti::mode_system, write: gmti::write, has_writer: true };
+pub const BY_HAND: Implementation = Implementation {
+    name: "by hand",
+    read: by_hand::read,
+    mode_system: by_hand::mode_system,
+    write: independent::write,
+    has_writer: false,
+};
+
+/// The independent implementation's lookup, told as the package tells it.
+fn mode_system(edition: u32, mode: u8) -> Result<u32, u32> {
+    match independent::mode_system(edition, mode) {
+        (0, system) => Ok(system),
+        (refusal, _) => Err(refusal),
+    }
+}
 
 /// `alike` or `new` with the answer of the Edition 1 reading, or the refusal of the Edition 3 reading, or `broken`.
 pub fn verdict(by: Implementation, packet: &[u8]) -> String {

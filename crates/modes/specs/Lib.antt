@@ -1,0 +1,4 @@
+pub mod Modes
+pub mod Tables
+pub mod InnerEntries
+pub mod Trials
