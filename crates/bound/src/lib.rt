@@ -1,4 +1,6 @@
 // How many bytes to set aside for a sheet before its packet is read.
+#![tactic(auto)]
+
 ghost use Rattle.std.specs.Prelude.{◌≡◌};
 ghost use Rattle.format.specs.Bound.{sheet_bound, EnoughFor};
 

@@ -1,4 +1,6 @@
 // The rows of the call, the header, and each body that has no mask, in their order. A function answers the first row that applies.
+#![tactic(auto)]
+
 ghost use Rattle.std.specs.Prelude.{◌≡◌, ◌&&◌, ◌||◌, cond, [], ◌∷◌, ◌≤◌, eqb, length};
 ghost use Rattle.text.specs.Text.{text_fault};
 ghost use Rattle.octets.specs.Octets.{between};

@@ -1,5 +1,7 @@
 // Bytes copied from p on in s to q on in o, and zeros stored. Up to 8 bytes are read as a number and written as one, which is one move;
 // a loop over its bytes is not. A longer run is copied as several such, one after another.
+#![tactic(auto)]
+
 ghost use Rattle.std.specs.Prelude.{◌≡◌, ◌+◌, ◌≤◌, length};
 ghost use Rattle.std.proofs.lemmas.List.Edits.{sets};
 ghost use Rattle.copies.specs.InnerCopied.{Room, RoomForAll, copied, cleared};

@@ -1,4 +1,6 @@
 // How many different numbers there are in a slice.
+#![tactic(auto)]
+
 ghost use Rattle.std.specs.Prelude.{◌≡◌, eqb, length};
 ghost use Rattle.distinct.specs.Distinct.{is_among, without_repeats};
 

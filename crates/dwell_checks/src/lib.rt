@@ -1,4 +1,6 @@
 // The rows of a dwell and of its targets, over the numbers in their announced fields, which are read where they stand in the packet.
+#![tactic(auto)]
+
 ghost use Rattle.std.specs.Prelude.{◌≡◌, true, not, ◌&&◌, ◌+◌, ◌-◌, ◌*◌, ◌≤◌, ◌<◌, length, drop};
 ghost use Rattle.octets.specs.Octets.{twos};
 ghost use Rattle.mask.specs.Fields.{announced, taken, announced_length, dwell_widths};
@@ -13,7 +15,7 @@ use format::Check;
 
 // What a walk over a dwell needs of it: the mask, where the targets start in the body, the bytes of each, how many they are, and what their
 // positions take from the dwell. It is worked out once for each walk, and handed on. With the area first, the loop over targets is fastest.
-#[derive(Drop)]
+#[derive(Clone, Copy)]
 pub struct Plan {
     pub area: format::Area,
     pub mask: u64,

@@ -1,4 +1,6 @@
 // What goes by the edition that a packet is read as.
+#![tactic(auto)]
+
 ghost use Rattle.std.specs.Prelude.{◌≡◌, cond};
 ghost use Rattle.mask.specs.Mask.{new_in_mask};
 ghost use Rattle.format.specs.Edition.{is_older, is_hrr, mark, is_new_mode};

@@ -1,4 +1,6 @@
 // D27 and J26 of the Edition 3 sheet, filled in on the Edition 1 sheet of the same packet.
+#![tactic(auto)]
+
 ghost use Rattle.std.specs.Prelude.{◌≡◌, length};
 ghost use Rattle.format.specs.Sheet.{body_length};
 ghost use Rattle.demands.specs.Filled.{filled_record, filled_in};

@@ -1,13 +1,14 @@
 // The values that the definitions of this crate speak of.
+#![tactic(auto)]
 
 // What the caller asks of a reading: the edition whose tables are used. A further setting becomes a field here.
-#[derive(Drop)]
+#[derive(Clone, Copy)]
 pub struct Settings {
     pub edition: u32,
 }
 
 // A reading, document 01's term: what is asked for, and the version of the packet that is read, from its P1.
-#[derive(Drop)]
+#[derive(Clone, Copy)]
 pub struct Reading {
     pub settings: Settings,
     pub version: u8,
@@ -15,7 +16,7 @@ pub struct Reading {
 
 // What a target's position takes from its dwell: the scale factors D10 and D11 of its deltas, and the center of the dwell area, D24 and D25,
 // that they are added to.
-#[derive(Drop)]
+#[derive(Clone, Copy)]
 pub struct Area {
     pub d10: position::Sa32,
     pub d11: position::Ba32,
@@ -24,7 +25,7 @@ pub struct Area {
 }
 
 // What the rows of the table of refusals say of the call and the header, or of one segment.
-#[derive(Drop)]
+#[derive(Clone, Copy)]
 pub enum Check {
     // No row applies.
     Passed,
@@ -33,7 +34,7 @@ pub enum Check {
 }
 
 // The answer of a reading or of the writer. specs/Answer.antt states the seven numbers of each case.
-#[derive(Drop)]
+#[derive(Clone, Copy)]
 pub enum Answer {
     // Segments, dwells, targets, and the length of the sheet or of the packet.
     Accepted(usize, usize, usize, usize),
@@ -42,7 +43,7 @@ pub enum Answer {
 }
 
 // The first thing in a packet that is new in Edition 3.
-#[derive(Drop)]
+#[derive(Clone, Copy)]
 pub enum New {
     Nothing,
     // The number of the segment that holds it, and the field that document 01 names for it.
@@ -58,7 +59,7 @@ pub const LONGEST_SHEET: usize = HeaderRecord::WHOLE
 
 // The records of a sheet: the kind of each, the length that the kind fixes for its body, and that of the whole record. Places are counted from
 // the body's first byte.
-#[derive(Drop)]
+#[derive(Clone, Copy)]
 pub struct HeaderRecord {}
 
 impl HeaderRecord {
@@ -69,7 +70,7 @@ impl HeaderRecord {
     pub const WHOLE: usize = 1 + HeaderRecord::LEN;
 }
 
-#[derive(Drop)]
+#[derive(Clone, Copy)]
 pub struct MissionRecord {}
 
 impl MissionRecord {
@@ -80,7 +81,7 @@ impl MissionRecord {
     pub const WHOLE: usize = 1 + MissionRecord::LEN;
 }
 
-#[derive(Drop)]
+#[derive(Clone, Copy)]
 pub struct DwellRecord {}
 
 impl DwellRecord {
@@ -98,7 +99,7 @@ impl DwellRecord {
     pub const MARK: usize = DwellRecord::LEN - 1;
 }
 
-#[derive(Drop)]
+#[derive(Clone, Copy)]
 pub struct TargetRecord {}
 
 impl TargetRecord {
@@ -113,7 +114,7 @@ impl TargetRecord {
     pub const LONGITUDE: usize = 40;
 }
 
-#[derive(Drop)]
+#[derive(Clone, Copy)]
 pub struct TextRecord {}
 
 impl TextRecord {
@@ -130,7 +131,7 @@ impl TextRecord {
     pub const F3: usize = TextRecord::F3_LENGTH;
 }
 
-#[derive(Drop)]
+#[derive(Clone, Copy)]
 pub struct PieceRecord {}
 
 impl PieceRecord {
@@ -147,7 +148,7 @@ impl PieceRecord {
     pub const FULL: usize = PieceRecord::LEN - 1;
 }
 
-#[derive(Drop)]
+#[derive(Clone, Copy)]
 pub struct OpaqueRecord {}
 
 impl OpaqueRecord {
@@ -161,7 +162,7 @@ impl OpaqueRecord {
     pub const BODY_LENGTH: usize = 1;
 }
 
-#[derive(Drop)]
+#[derive(Clone, Copy)]
 pub struct JobRecord {}
 
 impl JobRecord {
@@ -179,7 +180,7 @@ impl JobRecord {
     pub const MARK: usize = JobRecord::LEN - 1;
 }
 
-#[derive(Drop)]
+#[derive(Clone, Copy)]
 pub struct TestRecord {}
 
 impl TestRecord {
@@ -190,7 +191,7 @@ impl TestRecord {
     pub const WHOLE: usize = 1 + TestRecord::LEN;
 }
 
-#[derive(Drop)]
+#[derive(Clone, Copy)]
 pub struct LocationRecord {}
 
 impl LocationRecord {
@@ -201,7 +202,7 @@ impl LocationRecord {
     pub const WHOLE: usize = 1 + LocationRecord::LEN;
 }
 
-#[derive(Drop)]
+#[derive(Clone, Copy)]
 pub struct HrrRecord {}
 
 impl HrrRecord {
@@ -215,7 +216,7 @@ impl HrrRecord {
     pub const FIELDS: usize = 5;
 }
 
-#[derive(Drop)]
+#[derive(Clone, Copy)]
 pub struct ScattererRecord {}
 
 impl ScattererRecord {

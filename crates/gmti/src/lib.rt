@@ -1,6 +1,8 @@
 // The library for C and Rust: both readings, the writer, how long a sheet can get, and the systems of radar modes, exported under names of C.
 // A slice is a pointer and a length there, and an answer is room for seven numbers of 32 bits. Nothing is asked of the bytes that are handed
 // in; that each pointer has as many as its length says, and that lent memory lies apart from the rest, is the caller's care.
+#![tactic(auto)]
+
 ghost use Rattle.std.specs.Prelude.{◌≡◌, ℕ, ◌^◌, ◌<◌, get_or};
 ghost use Rattle.format.specs.Edition.{as_edition};
 ghost use Rattle.format.specs.Answer.{numbers_of};

@@ -1,6 +1,8 @@
 // Judges packets by both readings: reads a list of them from standard input, one a line, as `NAME: HEX`. It answers each by `NAME: ` and `alike`
 // or `new` with the answer of the Edition 1 reading, or by the refusal of the Edition 3 reading, or by `broken`; or by what is wrong with
 // the line.
+#![tactic(auto)]
+
 ghost use Rattle.std.specs.Prelude.{◌≡◌, ◌&&◌, cond, List, [], ◌∷◌, ◌++◌, ℕ, ◌+◌, ◌/◌, ◌≤◌, eqb, leb, ltb, length};
 ghost use Rattle.std.proofs.lemmas.List.Edits.{sets};
 ghost use Rattle.lines.specs.Lines.{before, NextWithin};
@@ -24,7 +26,7 @@ use format::{Answer, Check, DwellRecord, JobRecord, New};
 use sheet_walk::Place;
 
 // What both readings and the writer make of a packet.
-#[derive(Drop)]
+#[derive(Clone, Copy)]
 enum Verdict {
     // The Edition 3 reading refuses the packet: the demand says nothing of it.
     NotRead,
@@ -37,7 +39,7 @@ enum Verdict {
 }
 
 // The verdict on a packet, and the answers of both readings.
-#[derive(Drop)]
+#[derive(Clone, Copy)]
 struct Judged {
     verdict: Verdict,
     newer: Answer,

@@ -1,5 +1,7 @@
 // Reads a number k from standard input, and writes a packet of one dwell with k targets of 4 bytes, whose sheet falls 542 bytes short of the
 // bound.
+#![tactic(auto)]
+
 ghost use Rattle.std.specs.Prelude.{◌≡◌, ◌+◌, ◌*◌, ◌≤◌, length, take};
 ghost use Rattle.std.proofs.lemmas.List.Edits.{sets};
 ghost use Rattle.gmti_longest.specs.Longest.{without_line_feed, asked, delta_packet, written};

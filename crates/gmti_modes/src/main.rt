@@ -1,5 +1,7 @@
 // Tells radar modes: reads their numbers from standard input, one a line. It answers each by the number, its system in Edition 1's table and in
 // Edition 3's, each with the system's own number, and whether the mode is new in Edition 3; or by what is wrong with the line.
+#![tactic(auto)]
+
 ghost use Rattle.std.specs.Prelude.{◌≡◌, ◌++◌, ◌+◌, ◌≤◌, ◌<◌, length};
 ghost use Rattle.std.proofs.lemmas.List.Edits.{sets};
 ghost use Rattle.format.specs.Edition.{is_new_mode};

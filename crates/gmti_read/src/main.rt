@@ -1,4 +1,6 @@
 // Reads one packet as Edition 3 from standard input, and prints its answer and each target's latitude and longitude.
+#![tactic(auto)]
+
 ghost use Rattle.std.specs.Prelude.{◌≡◌, ◌+◌, ◌≤◌, length};
 ghost use Rattle.std.proofs.lemmas.List.Edits.{sets};
 ghost use Rattle.format.specs.Edition.{as_edition};

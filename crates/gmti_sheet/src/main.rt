@@ -1,5 +1,7 @@
 // Reads one packet from standard input as the edition that its one argument names, 1 or 3, and writes the sheet's bytes to standard
 // output, or the line of the refusal.
+#![tactic(auto)]
+
 ghost use Rattle.std.specs.Prelude.{◌≡◌, cond, [], ◌∷◌, ◌≤◌, length};
 ghost use Rattle.format.specs.Writer.{is_same};
 

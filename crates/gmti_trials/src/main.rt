@@ -1,6 +1,8 @@
 // Reads test vectors from standard input, one a line, as `NAME: E LENT HEX`: the edition of the reading, how many bytes of sheet are
 // lent, and the packet in hex; or with `w` in the place of the edition how many bytes of packet are lent to the writer, and the sheet. It
 // answers each by `NAME: `, the answer, and the lent bytes in hex, or by what is wrong with the line.
+#![tactic(auto)]
+
 ghost use Rattle.std.specs.Prelude.{◌≡◌, cond, ◌+◌, ◌/◌, ◌≤◌, length};
 ghost use Rattle.lines.specs.Lines.{NextWithin};
 ghost use Rattle.format.specs.Edition.{as_edition};
@@ -11,7 +13,7 @@ ghost use Rattle.format.specs.Writer.{write};
 use format::Answer;
 
 // What is wrong with a vector; whether it is the writer's, its numbers, and where its packet or sheet begins.
-#[derive(Drop)]
+#[derive(Clone, Copy)]
 struct Vector {
     fault: vectors::Fault,
     writes: bool,

@@ -1,4 +1,6 @@
 // Reads a sheet from standard input, and writes the packet's bytes to standard output, or the line of the refusal.
+#![tactic(auto)]
+
 ghost use Rattle.std.specs.Prelude.{◌≤◌, length};
 
 use format::Answer;

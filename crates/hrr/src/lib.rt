@@ -1,5 +1,7 @@
 // The mask of an HRR segment and what goes by it: the bytes that it announces, and the scatterers. Read as 8 bytes of which the last 3 are zero,
 // the mask numbers its fields as a dwell's does.
+#![tactic(auto)]
+
 ghost use Rattle.std.specs.Prelude.{◌≡◌, true, not, ◌&&◌, ◌||◌, cond, ℕ, ◌+◌, ◌*◌, ◌≤◌, length};
 ghost use Rattle.octets.specs.Layout.{total};
 ghost use Rattle.mask.specs.Fields.{announced, taken, announced_length};
@@ -97,7 +99,7 @@ pub fn fields_length(mask: u64) -> usize
 }
 
 // The scatterers of a segment: the bytes that the magnitude, the phase and the two indices of each take, and how many they are.
-#[derive(Drop)]
+#[derive(Clone, Copy)]
 pub struct Scatterers {
     pub magnitude: usize,
     pub phase: usize,

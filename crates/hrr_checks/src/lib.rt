@@ -1,4 +1,6 @@
 // The rows of an HRR segment's body, and its scatterers.
+#![tactic(auto)]
+
 ghost use Rattle.std.specs.Prelude.{◌≡◌, true, not, ◌&&◌, ◌+◌, ◌*◌, ◌≤◌, ltb, length, drop};
 ghost use Rattle.octets.specs.Octets.{between};
 ghost use Rattle.octets.specs.Layout.{total};

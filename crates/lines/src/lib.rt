@@ -1,9 +1,11 @@
 // The lines of standard input, one after another, in lent memory that has room for the longest: a list of any length is read so.
+#![tactic(auto)]
+
 ghost use Rattle.std.specs.Prelude.{◌≡◌, ℕ, ◌+◌, ◌-◌, ◌≤◌, length, take, drop};
 ghost use Rattle.lines.specs.Lines.{before, HeldWithin, NextWithin, StepWithin};
 
 // What is to be read behind what is held.
-#[derive(Drop)]
+#[derive(Clone, Copy)]
 pub enum Rest {
     // More lines.
     Lines,
@@ -14,7 +16,7 @@ pub enum Rest {
 }
 
 // Of the lent memory the bytes from `from` to `end` have been read and not yet handed on.
-#[derive(Drop)]
+#[derive(Clone, Copy)]
 pub struct Held {
     pub from: usize,
     pub end: usize,
@@ -22,7 +24,7 @@ pub struct Held {
 }
 
 // What comes next.
-#[derive(Drop)]
+#[derive(Clone, Copy)]
 pub enum Next {
     // A line, from the first place to the second, without its line feed, which the last line may lack.
     Line(usize, usize),
@@ -35,7 +37,7 @@ pub enum Next {
 }
 
 // What comes next, and what is held behind it.
-#[derive(Drop)]
+#[derive(Clone, Copy)]
 pub struct Step {
     pub next: Next,
     pub held: Held,

@@ -1,5 +1,7 @@
 // The mask of a dwell: fields at fault, and the length of what it announces. Presence, groups and reserved bits are
 // decided by shifts and masks over a u64, and the field at fault by leading zeros.
+#![tactic(auto)]
+
 ghost use Rattle.std.specs.Prelude.{◌≡◌, not, ◌&&◌, ℕ, ◌-◌, ◌/◌, ◌%◌, ◌^◌, ◌≤◌, ◌<◌, get_or, eqb};
 ghost use Rattle.std.specs.Int.Bits.{bit_and};
 ghost use Rattle.mask.specs.Fields.{announced, announced_length, dwell_widths, target_widths, dwell_size};

@@ -1,4 +1,6 @@
 // Which system a radar mode, the value of J14, belongs to: table 2-7.2 of each edition, looked up.
+#![tactic(auto)]
+
 ghost use Rattle.std.specs.Prelude.{◌≡◌, true, List, ◌≤◌};
 ghost use Rattle.modes.specs.Modes.{Run, edition1, edition3, system_number, lookup, number_of, system_of};
 ghost use Rattle.modes.specs.InnerEntries.{are_entries};
@@ -7,7 +9,7 @@ mod edition_1;
 mod edition_3;
 
 // The answer of a lookup. specs/Modes.antt states the number and the system of each case.
-#[derive(Drop)]
+#[derive(Clone, Copy)]
 pub enum Lookup {
     // The number of the system that the edition's table gives the mode, 1 to 12; 0 where it gives it to none.
     System(u8),

@@ -1,15 +1,17 @@
 // Latitudes and longitudes in steps, and in microdegrees.
+#![tactic(auto)]
+
 ghost use Rattle.std.specs.Prelude.{◌≡◌, true, ◌≤◌, ◌^◌, nat_abs};
 ghost use Rattle.position.specs.Position.{latitude_sum, is_latitude, latitude_micro, longitude_sum, longitude_micro};
 ghost use Rattle.position.specs.InnerHalf.{half_away};
 ghost use Rattle.position.specs.InnerAlways.{is_always_latitude};
 
 // Latitude steps, form SA32: each is 180/2^32 degrees. A sum of them may leave the 32 bits, so they are held in 64.
-#[derive(Drop)]
+#[derive(Clone, Copy)]
 pub struct Sa32(pub i64);
 
 // Longitude steps, form BA32: each is 360/2^32 degrees.
-#[derive(Drop)]
+#[derive(Clone, Copy)]
 pub struct Ba32(pub u32);
 
 // The steps of a latitude as a packet has it.

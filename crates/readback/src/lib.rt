@@ -1,5 +1,7 @@
 // Whether a sheet is the one that a packet reads to. The records are laid out a few at a time in a small window, and compared there: no
 // array as long as the sheet is needed, nor its clearing. Full pieces of longer segments are not laid out, but compared where they stand.
+#![tactic(auto)]
+
 ghost use Rattle.std.specs.Prelude.{◌≡◌, cond, [], ◌∷◌, ◌++◌, ◌+◌, ◌*◌, ◌≤◌, min, eqb, length, take};
 ghost use Rattle.octets.specs.Layout.{total};
 ghost use Rattle.hrr.specs.Hrr.{hrr_mask, hrr_fields, scatterer_count};

@@ -1,4 +1,6 @@
 // Both readings: a packet of any bytes, read as any edition onto a lent sheet.
+#![tactic(auto)]
+
 ghost use Rattle.std.specs.Prelude.{◌≡◌, [], ◌≤◌, length};
 ghost use Rattle.std.proofs.lemmas.List.Edits.{sets};
 ghost use Rattle.format.specs.Answer.{outcome};

@@ -1,5 +1,7 @@
 // The records of a sheet that are laid out from bytes at constant places: a filler for each gets the sheet from its place on. What is copied is
 // cut to the length that the record has for it, which the compiler so knows.
+#![tactic(auto)]
+
 ghost use Rattle.std.specs.Prelude.{◌≡◌, cond, [], ◌∷◌, ◌++◌, ◌+◌, ◌-◌, ◌*◌, ◌≤◌, length, take};
 ghost use Rattle.std.proofs.lemmas.List.Edits.{sets};
 ghost use Rattle.octets.specs.Octets.{bytes};

@@ -1,4 +1,6 @@
 // The rows of each segment, and the walk that checks them all before anything is written.
+#![tactic(auto)]
+
 ghost use Rattle.std.specs.Prelude.{◌≡◌, ◌+◌, ◌*◌, ◌≤◌, length};
 ghost use Rattle.std.proofs.lemmas.List.Edits.{sets};
 ghost use Rattle.format.specs.declared.Check.TheVariants.{Passed};
@@ -134,7 +136,7 @@ pub fn records_length(r: format::Reading, segment_type: u8, b: &[u8]) -> usize
 }
 
 // What stands at the front of what is left of a packet.
-#[derive(Drop)]
+#[derive(Clone, Copy)]
 pub enum Found {
     // The segment's size, its targets, and the bytes of its records.
     Good(usize, usize, usize),
@@ -163,7 +165,7 @@ pub fn segment_at(r: format::Reading, l: &[u8]) -> Found
 }
 
 // What the walk knows of the dwells that it has passed, by the number that D2 and D3 of each spell together.
-#[derive(Drop)]
+#[derive(Clone, Copy)]
 pub struct Dwells {
     // How often it rose, and how often it fell; the first is a rise.
     pub rises: usize,

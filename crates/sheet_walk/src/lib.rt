@@ -1,4 +1,6 @@
 // The records of a sheet: the one at a place, what the one says that begins a segment, and how much those have that follow it.
+#![tactic(auto)]
+
 ghost use Rattle.std.specs.Prelude.{◌≡◌, ◌||◌, cond, ◌+◌, ◌*◌, ◌≤◌, min, eqb, length, drop};
 ghost use Rattle.hrr.specs.InnerScatterers.{Narrow};
 ghost use Rattle.format.specs.Sheet.{body_length};
@@ -55,7 +57,7 @@ fn body_length(kind: u8) -> usize
 }
 
 // What is at a place of a sheet.
-#[derive(Drop)]
+#[derive(Clone, Copy)]
 pub enum Place {
     // A whole record: its kind, and the place behind its body. The body begins behind the byte of kind.
     Whole(u8, usize),
@@ -118,7 +120,7 @@ pub fn is_follower(kind: u8) -> bool
 }
 
 // What a record says that begins a segment.
-#[derive(Drop)]
+#[derive(Clone, Copy)]
 pub struct Lead {
     pub segment_type: u8,
     // How many bytes it gives to the segment's body.

@@ -1,4 +1,6 @@
 // The packet that a sheet spells: the header, then each segment with S2 worked out and only announced fields.
+#![tactic(auto)]
+
 ghost use Rattle.std.specs.Prelude.{◌≡◌, true, ◌||◌, cond, ◌∷◌, ◌⊎◌, ◌*◌, ◌≤◌, eqb, length, get_or, take, drop};
 ghost use Rattle.std.proofs.lemmas.List.Edits.{sets};
 ghost use Rattle.octets.specs.Octets.{bytes};
@@ -13,7 +15,7 @@ ghost use Rattle.spelling.specs.InnerSpelling.{header_end, surveyed, capped as c
 use sheet_walk::Place;
 
 // What rows 17 and 18 say of a sheet and, where neither applies, how long its packet is.
-#[derive(Drop)]
+#[derive(Clone, Copy)]
 pub enum Survey {
     // Row 17 applies.
     Unlisted,
@@ -24,7 +26,7 @@ pub enum Survey {
 }
 
 // What a record leaves of what is counted, or that it stands where it may not.
-#[derive(Drop)]
+#[derive(Clone, Copy)]
 enum Counted {
     // The kind that is due behind the record, how much of it, and the bytes spelt so far.
     Then(u8, usize, usize),
@@ -94,7 +96,7 @@ fn header_end(x: &[u8]) -> usize
 }
 
 // A place on the sheet, and how much is left there of what is due.
-#[derive(Drop)]
+#[derive(Clone, Copy)]
 struct Ahead {
     at: usize,
     left: usize,
@@ -257,7 +259,7 @@ fn put_record(kind: u8, leader: &[u8], b: &[u8], o: &mut [u8]) -> usize
 }
 
 // How far a step of the walk goes on the sheet behind a record, and in the packet.
-#[derive(Drop)]
+#[derive(Clone, Copy)]
 struct Step {
     read: usize,
     written: usize,

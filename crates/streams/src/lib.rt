@@ -1,11 +1,13 @@
 // Standard input and output for the programs. A read that fails is no end of the input, and a write that fails is no write: each says so
 // in a line on standard error, behind the words by which the caller names it, and the caller is told. A call that a signal
 // interrupts is made again.
+#![tactic(auto)]
+
 ghost use Rattle.std.specs.Prelude.{◌≤◌, length};
 ghost use Rattle.streams.specs.InnerWithin.{CallWithin, GotWithin, InputWithin};
 
 // What one read gave.
-#[derive(Drop)]
+#[derive(Clone, Copy)]
 pub enum Got {
     // So many bytes, one at least.
     Bytes(usize),
@@ -16,7 +18,7 @@ pub enum Got {
 }
 
 // What reading to the end, or until the lent memory is full, gave.
-#[derive(Drop)]
+#[derive(Clone, Copy)]
 pub enum Input {
     // So many bytes.
     Read(usize),
@@ -25,7 +27,7 @@ pub enum Input {
 }
 
 // What one call of the system gave.
-#[derive(Drop)]
+#[derive(Clone, Copy)]
 enum Call {
     // It moved so many bytes.
     Moved(usize),

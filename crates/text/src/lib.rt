@@ -1,5 +1,7 @@
 // Whether bytes are text. A byte has a rank: at most a limit for the bytes of a set, above it for all others. A loop keeps the highest rank, by
 // differences and choices of numbers alone: with no branch on the bytes the compiler takes many of them at a time.
+#![tactic(auto)]
+
 ghost use Rattle.std.specs.Prelude.{◌≡◌, max, nat_le};
 ghost use Rattle.text.specs.Text.{is_line_byte, is_text_byte, is_line, is_text};
 

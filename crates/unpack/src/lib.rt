@@ -1,6 +1,8 @@
 // One announced field laid out at its full width: from p on in s, to q on in o; each of `field1`, `field2`, `field2_onto_zeros` and `field4`
 // answers where the next field begins in s. The functions of dwells and targets, which lay out several, promise the same over longer lists of
 // widths.
+#![tactic(auto)]
+
 ghost use Rattle.std.specs.Prelude.{◌≡◌, [], ◌∷◌, ◌≤◌, eqb};
 ghost use Rattle.std.specs.Int.Bits.{bit_and};
 ghost use Rattle.unpack.specs.InnerLaid.{Room, Laid, Clear};

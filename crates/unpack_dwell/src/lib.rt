@@ -1,4 +1,6 @@
 // D2 to D31 of a dwell at full widths: from p on in s, to q on in o. Each function answers where the next field begins in s.
+#![tactic(auto)]
+
 ghost use Rattle.mask.specs.Fields.{dwell_widths};
 ghost use Rattle.mask.specs.InnerFields.{widths, Required};
 ghost use Rattle.unpack.specs.InnerLaid.{Room, Laid};

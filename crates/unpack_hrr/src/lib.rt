@@ -1,4 +1,6 @@
 // H2 to H31 of an HRR segment at full widths: from p on in s, to q on in o. Each function answers where the next field begins in s.
+#![tactic(auto)]
+
 ghost use Rattle.hrr.specs.Hrr.{hrr_widths};
 ghost use Rattle.hrr.specs.InnerScatterers.{widths};
 ghost use Rattle.unpack.specs.InnerLaid.{Room, Laid};

@@ -1,5 +1,7 @@
 // The parts of a program that reads a list of packets or sheets as text, one a line. Nothing is asked of the text itself: a line that
 // has not its program's form is answered by what is wrong with it.
+#![tactic(auto)]
+
 ghost use Rattle.std.specs.Prelude.{◌≡◌, [], ◌∷◌, ◌++◌, ◌+◌, ◌*◌, ◌/◌, ◌≤◌, ◌<◌, min, length, drop};
 ghost use Rattle.std.proofs.lemmas.List.Edits.{sets};
 ghost use Rattle.vectors.specs.Vectors.{is_colon, is_digit, is_number, digit_value, with_digit, spelt, hex_fault, is_hex, nibble, unhexed, hex_digit, hexed, fault_text, unread_line, vector_line};
@@ -7,7 +9,7 @@ ghost use Rattle.vectors.specs.Vectors.{is_colon, is_digit, is_number, digit_val
 use format::Answer;
 
 // What is wrong with a line.
-#[derive(Drop)]
+#[derive(Clone, Copy)]
 pub enum Fault {
     // It is in its program's form.
     Nothing,

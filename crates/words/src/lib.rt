@@ -1,5 +1,7 @@
 // Up to eight bytes as one number, the first of them the lowest: so the compiler moves them in one step or two. Where it knows a width, it tests
 // none.
+#![tactic(auto)]
+
 ghost use Rattle.std.specs.Prelude.{◌≡◌, ◌+◌, ◌*◌, ◌/◌, ◌^◌, ◌≤◌, ◌<◌, length, take, drop};
 ghost use Rattle.std.proofs.lemmas.List.Edits.{sets};
 ghost use Rattle.words.specs.InnerWords.{low, Spells};

@@ -1,4 +1,6 @@
 // The writer: a sheet of any bytes, back to the packet that reads to it.
+#![tactic(auto)]
+
 ghost use Rattle.std.specs.Prelude.{◌≡◌, cond, [], ◌≤◌, length};
 ghost use Rattle.format.specs.declared.Check.TheVariants.{Passed, Failed};
 ghost use Rattle.format.specs.declared.Answer.TheVariants.{Refused};
