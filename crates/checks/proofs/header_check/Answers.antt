@@ -1,0 +1,67 @@
+-- `checks::header_check` meets its contract. The rows of the call and of the header, in their order.
+-- Assumes nothing.
+use Prim.Native.Nat.{ℕ}
+use mathlib.Core.Path.{◌≡◌, sym, ◌∙◌}
+use mathlib.Core.Logic.{⊎_elim}
+use borrow.Author.Tests.{lt-ltb, le-ltb, eq-eqb, ne_eqb, not-true, not-false}
+use lib.ListN.{length, drop}
+use Rattle.octets.specs.Layout.{total, value}
+use Rattle.format.specs.declared.Check.{Check}
+use Rattle.format.specs.Packet.{is_p1, P}
+use Rattle.format.specs.Rows.{first_row, header_rows}
+use Rattle.checks.proofs.header_check.Goals as goal
+use Rattle.checks.proofs.header_check.Goals.{Else-get_u32-l, Else-l-gt65536, Else-not-is_edition, Else-not-is_version}
+
+-- the first row that applies, of those from the k-th on
+abbrev from : ℕ → Start → Check
+from k c = first_row (drop k (header_rows c.args.settings c.args.l.now))
+
+-- row 1 does not apply
+past-1 : (c : Else-not-is_edition) → from 0 c ≡ from 1 c
+unfolding first_row header_rows
+past-1 c = rw (sym c.is_edition.ensures ∙ not-false _ c.if-not-is_edition.false)
+
+-- nor does row 2
+past-2 : (c : Else-l-gt65536) → from 0 c ≡ from 2 c
+unfolding first_row header_rows
+past-2 c =
+    past-1 (goal.at.Else-l-gt65536 c).Else-not-is_edition ∙ rw (le-ltb (length c.args.l.now) 32 c.if-l-lt32.false, c.if-l-gt65536.false)
+
+-- nor row 3
+past-3 : (c : Else-not-is_version) → from 0 c ≡ from 3 c
+unfolding first_row header_rows is_p1
+past-3 c = past-2 (goal.at.Else-not-is_version c).Else-l-gt65536 ∙ rw (sym c.is_version.ensures ∙ not-false _ c.if-not-is_version.false)
+
+-- nor row 4
+past-4 : (c : Else-get_u32-l) → from 0 c ≡ from 4 c
+unfolding first_row header_rows value total
+past-4 c =
+    let l = c.args.l.now in
+    past-3 (goal.at.Else-get_u32-l c).Else-not-is_version ∙ rw (eq-eqb (P 2 l) (length l) (sym c.get_u32.ensures ∙ c.if-get_u32-l.false))
+
+pub returns-then-not-is_edition : goal.returns-then-not-is_edition
+unfolding first_row header_rows
+returns-then-not-is_edition c = rw (sym c.is_edition.ensures ∙ not-true _ c.if-not-is_edition.true)
+
+pub returns-then-l-lt32 : goal.returns-then-l-lt32
+unfolding first_row header_rows
+returns-then-l-lt32 c = length c.args.l.now in
+    sym
+    (past-1 (goal.at.returns-then-l-lt32 c).Else-not-is_edition
+    ∙ ⊎_elim
+    (λ w. rw (lt-ltb n 32 w.taken))
+    (λ w. rw (le-ltb n 32 w.0.left, w.1.taken))
+    c.then-l-lt32.branch)
+
+pub returns-then-not-is_version : goal.returns-then-not-is_version
+unfolding first_row header_rows is_p1
+returns-then-not-is_version c = sym (past-2 (goal.at.returns-then-not-is_version c).Else-l-gt65536 ∙ rw (sym c.is_version.ensures ∙ not-true _ c.if-not-is_version.true))
+
+pub returns-then-get_u32-l : goal.returns-then-get_u32-l
+unfolding first_row header_rows value total
+returns-then-get_u32-l c = c.args.l.now in
+    sym (past-3 (goal.at.returns-then-get_u32-l c).Else-not-is_version ∙ rw (ne_eqb (P 2 l) (length l) (λ e. c.if-get_u32-l.true (c.get_u32.ensures ∙ e))))
+
+pub returns : goal.returns
+unfolding header_rows
+returns c = sym (past-4 (goal.at.returns c).Else-get_u32-l ∙ rw (sym c.header_text.ensures) (sym c.naming_row.ensures))

@@ -1,0 +1,13 @@
+-- `checks::header_text` meets its contract. P3, P5 and P8 are the parts that are tested.
+-- Assumes nothing.
+use Rattle.octets.specs.Layout.{total, field}
+use Rattle.text.specs.Text.{text_fault}
+use Rattle.checks.proofs.Fields.{first-is}
+use Rattle.checks.proofs.header_text.Goals as goal
+
+pub returns : goal.returns
+unfolding text_fault field total
+returns c = c in
+    let second = third.before.before in
+    let first = second.before.before in
+    first-is 3 5 8 first.is-line.ensures second.is-line2.ensures third.is-line3.ensures c.first_failed.ensures

@@ -1,0 +1,15 @@
+-- `dwell_checks::u16_if` meets its contract. The number at its place where the field is announced, and 0 where it is not.
+-- Assumes nothing.
+use mathlib.Core.Path.{sym, ◌∙◌}
+use Rattle.dwell_checks.proofs.Numbers.{if-there, if-absent}
+use Rattle.dwell_checks.proofs.u16_if.Goals as goal
+
+pub get_u16-requires : goal.get_u16-requires
+get_u16-requires c = c.requires.2 (sym c.has.ensures ∙ c.if-has.true)
+
+pub returns-then-has : goal.returns-then-has
+returns-then-has c = c.args in
+    if-there a.mask a.n 2 a.at a.b.now (sym c.has.ensures ∙ c.if-has.true) c.get_u16.ensures
+
+pub returns-else-has : goal.returns-else-has
+returns-else-has c = c.args in if-absent a.mask a.n 2 a.at a.b.now (sym c.has.ensures ∙ c.if-has.false)

@@ -1,0 +1,12 @@
+-- `filling::fill_pair` meets its contract: records of one kind go to `fill_record`.
+-- Assumes nothing.
+use mathlib.Core.Path.{sym, ap, ◌∙◌}
+use Rattle.format.specs.Sheet.{body_length}
+use Rattle.filling.proofs.fill_pair.Goals as goal
+
+pub fill_record-requires : goal.fill_record-requires
+fill_record-requires c = c.requires in
+    (p.0, p.1 ∙ sym (ap body_length c.if-kind-other.false))
+
+pub returns : goal.returns
+returns c = c in rw (← fill.before.before.if1.false) fill.fill-record.ensures

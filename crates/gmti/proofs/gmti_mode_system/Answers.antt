@@ -1,0 +1,10 @@
+-- `gmti::gmti_mode_system` meets its contract: the number and the system of the lookup's answer.
+-- Assumes nothing.
+use mathlib.Core.Path.{ap, ◌∙◌}
+use Rattle.modes.specs.Modes.{number_of, system_of}
+use Rattle.gmti.proofs.gmti_mode_system.Goals as goal
+
+pub returns : goal.returns
+returns c = c in
+    let found = system.before.mode-system.ensures.0 in
+    (c.number_of_lem.ensures ∙ ap number_of found, system.system-of.ensures ∙ ap system_of found)

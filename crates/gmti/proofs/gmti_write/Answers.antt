@@ -1,0 +1,11 @@
+-- `gmti::gmti_write` meets its contract. The numbers fit whatever is handed in, so nothing is asked of the caller.
+-- Assumes nothing.
+use Rattle.demands.proofs.Numbers.{write-numbers-fit}
+use Rattle.gmti.proofs.Outcomes.{outcome_fits, outcome-parts}
+use Rattle.gmti.proofs.gmti_write.Goals as goal
+
+pub put_numbers-requires : goal.put_numbers-requires
+put_numbers-requires c = outcome_fits _ _ _ c.write.ensures (write-numbers-fit _ _)
+
+pub returns : goal.returns
+returns c = outcome-parts _ _ _ c.write.ensures _ c.put_numbers.ensures

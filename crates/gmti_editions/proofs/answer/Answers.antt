@@ -1,0 +1,46 @@
+-- `gmti_editions::answer` meets its contract. A line that something is wrong with, and one with a packet.
+-- Assumes nothing.
+use native.Mathlib.Omega.{arith}
+use mathlib.Core.Path.{◌≡◌, sym, ◌∙◌}
+use mathlib.Core.List.{[], ◌∷◌}
+use types.Run.{miss}
+use lib.ListN.{length, take}
+use lib.Seq.{length-take-le}
+use Rattle.vectors.specs.declared.Fault.TheVariants.{Nothing}
+use Rattle.lines.specs.Lines.{before}
+use Rattle.gmti_editions.proofs.Said.{fault-nothing, nothing_said, fault-said}
+use Rattle.gmti_editions.proofs.answer.Goals as goal
+use Rattle.gmti_editions.proofs.answer.Goals.{After-find-name, In_default}
+
+-- the name ends within the line
+named : (c : After-find-name) → length (take c.find-name.result c.args.line.now) ≡ c.find-name.result
+named c = length-take-le c.find-name.result c.args.line.now c.find-name.ensures.1.1
+
+found : (c : After-find-name) → c.find-name.result ≡ before 58 c.args.line.now
+found c = omega (arith, c.find-name.ensures.0)
+
+-- what is not in the first arm has a fault
+faulty : (c : In_default) → c.fault-f.result ≡ Nothing → ⊥
+faulty c e = miss (1 ∷ 2 ∷ 3 ∷ 4 ∷ 5 ∷ []) 0 tt (rw e at c.in_default.keys2)
+
+pub slice_bounds-put_unread-end : goal.slice_bounds-put_unread-end
+slice_bounds-put_unread-end c = sym (named (goal.at.slice_bounds-put_unread-end c).After-find-name)
+
+pub put_unread-requires : goal.put_unread-requires
+put_unread-requires c = omega (arith, named (goal.at.put_unread-requires c).After-find-name, c.find-name.ensures.1.1, c.requires.1.1)
+
+pub returns-in_default : goal.returns-in_default
+returns-in_default c = c in
+    let put = c.put_unread in
+    let said = fault-said start.args.line.now start.args.older.now start.args.newer.now start.args.buffer.now c.fault-f.ensures (found (goal.at.returns-in_default c).After-find-name) (faulty (goal.at.returns-in_default c).In_default) in
+    rw said put.ensures
+
+pub put_packet-requires : goal.put_packet-requires
+put_packet-requires c = c in
+    ((found (goal.at.put_packet-requires c).After-find-name, fault-nothing start.args.line.now (sym c.fault-f.ensures ∙ c.in-Nothing.is)), (start.requires.0, (start.requires.1.0, start.requires.1.1)))
+
+pub returns : goal.returns
+returns c = c in
+    let put = c.put_packet in
+    let said = nothing_said start.args.line.now start.args.older.now start.args.newer.now start.args.buffer.now c.fault-f.ensures c.in-Nothing.is in
+    rw said put.ensures

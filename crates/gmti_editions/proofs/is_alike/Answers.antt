@@ -1,0 +1,18 @@
+-- `gmti_editions::is_alike` meets its contract. The test of both sheets; behind it each call's equation goes into the next one.
+-- Assumes nothing.
+use borrow.Author.Tests.{not-true, not-false}
+use Rattle.gmti_editions.proofs.Cases.{not_alike, alike-by}
+use Rattle.gmti_editions.proofs.is_alike.Goals as goal
+
+pub returns-then-not-is_older_sheet : goal.returns-then-not-is_older_sheet
+returns-then-not-is_older_sheet c = c in
+    let x = due.before.before.before.before.before.before.args in
+    not_alike x.l.now x.s x.d x.t x.older.now x.newer.now x.buffer.now due.is-older-sheet.ensures (not-true _ c.if-not-is_older_sheet.true)
+
+pub returns : goal.returns
+returns c = c in
+    let filled = written.before.before.before.before.before in
+    let test = filled.before.before in
+    let due = test.before in
+    let x = due.before.before.before.before.before.before.args in
+    alike-by x.l.now x.s x.d x.t x.older.now x.newer.now x.buffer.now due.is-older-sheet.ensures (not-false _ test.if1.false) _ filled.fill-for.ensures _ written.write.ensures _ c.is_returned.ensures

@@ -1,0 +1,48 @@
+-- `gmti_editions::put_packet` meets its contract. The packet judged is the one that the hex of the line spells.
+-- Assumes nothing.
+use native.Mathlib.Omega.{arith}
+use Prim.Native.Nat.{◌-◌, ◌≤◌}
+use mathlib.Core.Path.{◌≡◌, sym, ap, ◌∙◌}
+use lib.ListN.{length, take, drop, length-take, length-drop}
+use lib.Seq.{length-take-le}
+use Rattle.lines.proofs.Search.{before-le}
+use Rattle.vectors.specs.Vectors.{hex_fault, unhexed}
+use Rattle.gmti_editions.proofs.Said.{hex-from, spelt-front, packet-said}
+use Rattle.gmti_editions.proofs.put_packet.Goals as goal
+use Rattle.gmti_editions.proofs.put_packet.Goals.{Start}
+
+-- the name ends within the line
+within : (c : Start) → c.args.name ≤ length c.args.line.now
+within c = omega (arith, c.requires.0.0, before-le 58 c.args.line.now)
+
+named : (c : Start) → length (take c.args.name c.args.line.now) ≡ c.args.name
+named c = length-take-le c.args.name c.args.line.now (within c)
+
+pub further-hex-requires : goal.further-hex-requires
+further-hex-requires c = within (goal.at.further-hex-requires c).Start
+
+pub unhex-n-requires : goal.unhex-n-requires
+unhex-n-requires c = c in
+    let line = start.args.line.now in
+    let h = c.further-hex.result in
+    (ap hex_fault (hex-from line start.requires.0.0 c.further-hex.ensures.0) ∙ start.requires.0.1, omega (arith, length-take (length line - h) (drop h line), length-drop h line, start.requires.1.0))
+
+pub slice_bounds-judge-end-2 : goal.slice_bounds-judge-end-2
+slice_bounds-judge-end-2 c = c.unhex-n in sym (length-take-le u.result u.new.1.0 u.ensures.0.1)
+
+pub slice_bounds-put_line-end : goal.slice_bounds-put_line-end
+slice_bounds-put_line-end c = sym (named (goal.at.slice_bounds-put_line-end c).Start)
+
+pub put_line-requires : goal.put_line-requires
+put_line-requires c = omega (arith, named (goal.at.put_line-requires c).Start, within (goal.at.put_line-requires c).Start, c.requires.1.1.1)
+
+pub returns : goal.returns
+returns c = c in
+    let line = start.args.line.now in
+    let put = c.put_line in
+    let judged = c.judge-j in
+    let u = c.unhex-n in
+    let hex = hex-from line start.requires.0.0 c.further-hex.ensures.0 in
+    let spelt = spelt-front (take (length line - c.further-hex.result) (drop c.further-hex.result line)) start.args.packet.now u.ensures.0.0 (omega (arith, u.ensures.0.1, u.auto.1.0)) u.ensures.1 ∙ ap unhexed hex in
+    let said = packet-said line start.args.older.now start.args.newer.now start.args.buffer.now start.requires.0.0 spelt judged.ensures.0 judged.ensures.1.0.0 judged.ensures.1.0.1 in
+    rw (← said) put.ensures

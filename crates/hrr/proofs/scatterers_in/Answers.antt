@@ -1,0 +1,72 @@
+-- `hrr::scatterers_in` meets its contract. Each number stands behind the announced fields in front of it.
+-- Assumes nothing.
+use mathlib.Core.Path.{◌≡◌, refl, ap, ◌∙◌}
+use Prim.Native.Nat.{ℕ, ◌+◌}
+use native.Mathlib.Omega.{arith}
+use lib.Dec.{lit≤, lit<}
+use lib.ListN.{drop}
+use Rattle.mask.specs.Fields.{announced_length, full_fields}
+use Rattle.mask.proofs.Fours.{four-fields}
+use Rattle.mask.proofs.Places.{announced_before}
+use Rattle.hrr.specs.Hrr.{hrr_widths, hrr_fields}
+use Rattle.hrr.specs.InnerScatterers.{widths, scatterers_of}
+use Rattle.hrr.proofs.Numbers.{count-is, number-room, number_is, h25-room, h25-is, h26-is}
+use Rattle.hrr.proofs.scatterers_in.Goals as goal
+use Rattle.hrr.proofs.scatterers_in.Goals.{After-width_if-2}
+
+at-6 : (c : After-width_if-2) → 5 + c.four-h6.result ≡ 5 + announced_before c.args.mask 2 hrr_widths 6
+unfolding announced_length
+at-6 c = omega (arith, c.four-h6.ensures.0, four-fields c.args.mask 2 (widths 2 5) (lit≤ tt))
+
+at_7 : (c : After-width_if-2) → 5 + c.four-h6.result + c.width_if.result ≡ 5 + announced_before c.args.mask 2 hrr_widths 7
+unfolding announced_length
+at_7 c = omega (arith, at-6 c, c.width_if.ensures.0)
+
+at_8 : (c : After-width_if-2) → 5 + c.four-h6.result + c.width_if.result + c.width_if-2.result
+    ≡ 5 + announced_before c.args.mask 2 hrr_widths 8
+unfolding announced_length
+at_8 c = omega (arith, at_7 c, c.width_if-2.ensures.0)
+
+pub number_if-requires : goal.number_if-requires
+number_if-requires c = c in
+    (lit≤ tt, lit≤ tt, number-room s.args.mask s.args.b.now 6 _ (lit≤ tt) (lit< tt) refl (at-6 (goal.at.number_if-requires c).After-width_if-2) s.requires.0.2)
+
+pub number_if-requires-2 : goal.number_if-requires-2
+number_if-requires-2 c = c in
+    (lit≤ tt, lit≤ tt, number-room s.args.mask s.args.b.now 7 _ (lit≤ tt) (lit< tt) refl (at_7 (goal.at.number_if-requires-2 c).After-width_if-2) s.requires.0.2)
+
+pub number_if-requires-3 : goal.number_if-requires-3
+number_if-requires-3 c = c in
+    (lit≤ tt, lit≤ tt, number-room s.args.mask s.args.b.now 8 _ (lit≤ tt) (lit< tt) refl (at_8 (goal.at.number_if-requires-3 c).After-width_if-2) s.requires.0.2)
+
+pub bounds-b-at : goal.bounds-b-at
+bounds-b-at c = c in
+    omega (arith, h25-room s.args.mask s.args.b.now s.requires.0.1 s.args.at s.requires.1 s.requires.0.2)
+
+pub overflow_add-at : goal.overflow_add-at
+overflow_add-at c = c in
+    omega (arith, h25-room s.args.mask s.args.b.now s.requires.0.1 s.args.at s.requires.1 s.requires.0.2, s.well-formed)
+
+pub bounds-b-at-2 : goal.bounds-b-at-2
+bounds-b-at-2 c = c in
+    h25-room s.args.mask s.args.b.now s.requires.0.1 s.args.at s.requires.1 s.requires.0.2
+
+pub returns : goal.returns
+unfolding hrr_fields
+returns c = c in
+    let h8 = count.before in
+    let h7 = h8.before in
+    let h6 = h7.before in
+    let sized = h6.before in
+    let s = sized.before.before.before.before.before in
+    let m = s.args.mask in
+    let b = s.args.b.now in
+    let e6 = number_is m b 6 _ (lit≤ tt) (lit< tt) refl (at-6 sized) h6.number-if.ensures.0 in
+    let e7 = number_is m b 7 _ (lit≤ tt) (lit< tt) refl (at_7 sized) h7.number-if2.ensures.0 in
+    let e8 = number_is m b 8 _ (lit≤ tt) (lit< tt) refl (at_8 sized) h8.number-if3.ensures.0 in
+    let n = count-is m (full_fields m 2 hrr_widths (drop 5 b)) e6 e7 e8 count.count_of.ensures.0 in
+    let h25 = h25-is m b s.requires.0.1 s.args.at s.requires.1 in
+    let h26 = h26-is m b s.requires.0.1 s.args.at s.requires.1 in (
+      c.with_widths.ensures.0 ∙ rw (h25, h26, n) (ap (λ (k : ℕ). scatterers_of m (full_fields k 2 hrr_widths (drop 5 b))) s.requires.0.0),
+      c.with_widths.ensures.1,
+    )

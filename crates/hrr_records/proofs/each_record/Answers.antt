@@ -1,0 +1,59 @@
+-- `hrr_records::each_record` meets its contract. What is left of the scatterers to store, stored where it belongs, gives all of them.
+-- Assumes nothing.
+use mathlib.Core.Path.{◌≡◌, refl, ap}
+use Prim.Native.Nat.{ℕ, suc, ◌+◌, ◌-◌, ◌≤◌}
+use native.Mathlib.Nat.{mul-le-mul_right}
+use native.Mathlib.Omega.{arith}
+use lib.ListN.{length}
+use lib.Seq.{sets}
+use borrow.Author.Rules.{rules}
+use Rattle.octets.specs.Layout.{total}
+use Rattle.hrr.specs.InnerScatterers.{digits}
+use Rattle.format.specs.Sheet.{scatterer_records, record_bytes}
+use Rattle.format.specs.Lengths.{record_length}
+use Rattle.hrr_records.proofs.Scatterers.{scatterers-next, scatterers-last}
+use Rattle.hrr_records.proofs.each_record.Goals as goal
+use Rattle.hrr_records.proofs.each_record.Goals.{In-loop-i}
+
+abbrev start : In-loop-i → Start
+start c = c.before.before.before.before
+
+-- in a turn the scatterer lies within, and its record has room
+within : (c : In-loop-i → let a = (start c).args in let l = c.loop-i in
+    (l.at + total (digits a.n) ≤ length a.t.now) × (l.q + record_length 12 ≤ length l.o)
+unfolding total
+within c =
+    let s = start c in
+    let l = c.loop-i in
+    let all = mul-le-mul_right {m = suc l.i} {n = s.args.count} (total (digits s.args.n)) c.loop-i-test.true in
+    (omega (arith, l.invariant, s.pre), omega arith)
+
+pub loop-i-init : goal.loop-i-init
+loop-i-init c = c.args in
+    let e : a.count - 0 ≡ a.count = omega arith in
+    (omega arith, omega arith, omega arith, refl, ap (λ (n : ℕ). sets a.o.now 0 (record_bytes (scatterer_records (digits a.n) n a.t.now))) e)
+
+pub scatterer_record-requires : goal.scatterer_record-requires
+scatterer_record-requires c = c in
+    let s = start turn in
+    let l = turn.before.loop in
+    let h = within turn in
+    (s.pre.0, search rules, search rules)
+
+pub loop-i-preserved : goal.loop-i-preserved
+unfolding total
+loop-i-preserved c = c in
+    let turn = stored.before.before.before in
+    let a = (start turn).args in
+    let l = turn.before.loop in (
+      omega arith,
+      omega arith,
+      omega arith,
+      search rules,
+      scatterers-next (digits a.n) (a.count - l.i) (a.count - (l.i + 1)) l.at l.q _ a.t.now l.o _ (omega arith) (omega arith) stored.scatterer-record.ensures l.invariant.4,
+    )
+
+pub returns : goal.returns
+returns c = c.args in
+    let l = c.loop-i in
+    scatterers-last (digits a.n) (a.count - l.i) l.at l.q a.t.now l.o _ (omega arith) l.invariant.4

@@ -1,0 +1,56 @@
+-- `hrr_records::hrr_records` meets its contract. The segment's record, and its scatterers in a part of the sheet.
+-- Assumes nothing.
+use mathlib.Core.Path.{◌≡◌, ap, ◌∙◌}
+use mathlib.Core.List.{List}
+use Prim.Native.Nat.{ℕ, ◌+◌}
+use native.Mathlib.Omega.{arith}
+use Rattle.mask.specs.Fields.{announced_length}
+use Rattle.hrr.specs.declared.Scatterers.{Scatterers}
+use Rattle.hrr.specs.Hrr.{hrr_mask, hrr_widths}
+use Rattle.hrr.specs.InnerScatterers.{widths_of}
+use Rattle.format.specs.Sheet.{scatterer_records, record_bytes}
+use Rattle.format.specs.Lengths.{record_length}
+use Rattle.format.proofs.Hrr.{is-hrr}
+use Rattle.records.proofs.Laid.{part-laid}
+use Rattle.hrr_records.proofs.Segments.{hrr-with-scatterers}
+use Rattle.hrr_records.proofs.hrr_records.Goals as goal
+use Rattle.hrr_records.proofs.hrr_records.Goals.{After-scatterers_in-s}
+
+-- where the function begins, from the place on where the scatterers are known
+abbrev start : After-scatterers_in-s → Start
+start c = c.before.before.before.before.before
+
+-- where they begin in the body
+begins : (c : After-scatterers_in-s) → 5 + c.fields_length-start.result ≡ 5 + announced_length (hrr_mask (start c).args.b.now) 2 hrr_widths
+begins c =
+    ap (λ (n : ℕ). 5 + n) (c.fields_length-start.ensures.0 ∙ ap (λ (mask : ℕ). announced_length mask 2 hrr_widths) c.mask_of-mask.ensures)
+
+pub mask_of-mask-requires : goal.mask_of-mask-requires
+mask_of-mask-requires c = c in (is-hrr s.args.b.now s.requires.0).masked
+
+pub hrr_record-requires : goal.hrr_record-requires
+hrr_record-requires c = c in
+    (rw known.before.before.mask-of.ensures known.scatterers-in.ensures.1.0, omega (arith, (start known).requires))
+
+pub slice_bounds-scatterer_records-count : goal.slice_bounds-scatterer_records-count
+slice_bounds-scatterer_records-count c = c in omega (arith, begins known, known.scatterers-in.ensures.1.1)
+
+pub slice_bounds-scatterer_records-start : goal.slice_bounds-scatterer_records-start
+slice_bounds-scatterer_records-start c = c in omega (arith, begins known, known.scatterers-in.ensures.1.1)
+
+pub scatterer_records-requires : goal.scatterer_records-requires
+scatterer_records-requires c = c in
+    let known = head.before.before in
+    let found = known.scatterers-in in
+    let s = start known in
+    let count = ap (λ (k : Scatterers). k.count) found.ensures.0.0 in
+    (found.ensures.0.1, omega (arith, begins known, found.ensures.1.1), omega (arith, s.pre.1, count, head.hrr-record.auto))
+
+pub returns : goal.returns
+returns c = c in
+    let head = laid.before.before.before.before.before in
+    let known = head.before.before in
+    let a = (start known).args in
+    let s = known.scatterers-in.result in
+    hrr-with-scatterers a.b.now a.o.now s (5 + known.before.fields-length.result) known.scatterers-in.ensures.0.0 (begins known) head.hrr-record.ensures
+    (part-laid (λ (x : List ℕ). record_bytes (scatterer_records (widths_of s) s.count x)) a.b.now head.hrr-record.new.1.1.0 (5 + known.before.fields-length.result) (record_length 11) laid.scatterer-records.ensures)

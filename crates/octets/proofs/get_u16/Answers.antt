@@ -1,0 +1,11 @@
+-- `octets::get_u16` meets its contract. The bytes are bounded by `wide`, so every sum is closed by search; the value is `be 2` written out.
+-- Assumes nothing.
+use native.Mathlib.Omega.{arith}
+use native.Mathlib.Nat.{add-zero}
+use lib.Seq.{get_or-drop}
+use Rattle.octets.specs.Octets.{be}
+use Rattle.octets.proofs.get_u16.Goals as goal
+
+pub returns : goal.returns
+unfolding be
+returns c = simp (get_or-drop, add-zero) (omega arith)

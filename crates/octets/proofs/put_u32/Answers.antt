@@ -1,0 +1,7 @@
+-- `octets::put_u32` meets its contract. Two halves: one law, `stored`, which search applies to what the two calls ensure.
+-- Assumes nothing.
+use Rattle.octets.proofs.Laws.{stored}
+use Rattle.octets.proofs.put_u32.Goals as goal
+
+pub returns : goal.returns
+returns c = search (stored 2 2)

@@ -1,0 +1,14 @@
+-- `pack::d15_to_19` meets its contract. Each field is stored where the one before it ends. Assumes nothing.
+use Rattle.octets.specs.Layout.{total}
+use Rattle.pack.proofs.Lines.{onward}
+use Rattle.pack.proofs.d15_to_19.Goals as goal
+
+pub returns : goal.returns
+unfolding total
+returns c = c in
+    let d18 = d19.before.before.before.before in
+    let d17 = d18.before.before.before.before in
+    let d16 = d17.before.before.before.before in
+    let d15 = d16.before.before.before.before in
+    onward (onward (onward (onward (λ _. d15.field2.ensures) d16.field4.ensures) d17.field1.ensures) d18.field12.ensures) d19.field22.ensures
+    d15.before.before.before.before.requires.held

@@ -1,0 +1,15 @@
+-- `pack::field1` meets its contract. An announced field is copied, and one that is not is left out. Assumes nothing.
+use Rattle.octets.specs.Layout.{total}
+use Rattle.pack.proofs.Lines.{block_needs, block}
+use Rattle.pack.proofs.field1.Goals as goal
+
+pub copy1-requires : goal.copy1-requires
+unfolding total
+copy1-requires c = c in
+    block_needs has.before.before.before.requires.2 (rw (← has.has.ensures, c.if-has.true))
+
+pub returns-then-has : goal.returns-then-has
+unfolding total
+returns-then-has c = c in
+    let test = copy.before.before in
+    block (rw (← test.before.has.ensures, test.if1.true)) copy.copy1.ensures

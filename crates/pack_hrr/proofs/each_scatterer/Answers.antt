@@ -1,0 +1,60 @@
+-- `pack_hrr::each_scatterer` meets its contract. What is left of the scatterers to store, stored where it belongs, gives all of them.
+-- Assumes nothing.
+use mathlib.Core.Path.{◌≡◌, refl, ap}
+use Prim.Native.Nat.{ℕ, suc, ◌+◌, ◌-◌, ◌≤◌}
+use native.Mathlib.Nat.{suc-mul, mul-le-mul_right}
+use native.Mathlib.Omega.{arith}
+use lib.ListN.{length}
+use lib.Seq.{sets}
+use borrow.Author.Rules.{rules}
+use Rattle.octets.specs.Layout.{total}
+use Rattle.hrr.specs.InnerScatterers.{digits}
+use Rattle.format.specs.Lengths.{record_length}
+use Rattle.format.proofs.Hrr.{all-narrow}
+use Rattle.pack_hrr.specs.InnerNarrowed.{narrowed_all}
+use Rattle.pack_hrr.proofs.Narrowed.{all-next, all-last}
+use Rattle.pack_hrr.proofs.each_scatterer.Goals as goal
+use Rattle.pack_hrr.proofs.each_scatterer.Goals.{In-loop-i}
+
+abbrev start : In-loop-i → Start
+start c = c.before.before.before.before
+
+-- in a turn the scatterer's record lies within, and its bytes have room
+within : (c : In-loop-i → let a = (start c).args in let l = c.loop-i in
+    (l.at + record_length 12 ≤ length a.x.now) × (l.q + a.each ≤ length l.o)
+within c =
+    let s = start c in
+    let l = c.loop-i in
+    let all = mul-le-mul_right {m = suc l.i} {n = s.args.count} s.args.each c.loop-i-test.true in
+    (omega arith, omega (arith, all, suc-mul l.i s.args.each, l.invariant, s.pre.3))
+
+pub loop-i-init : goal.loop-i-init
+loop-i-init c = c.args in
+    let e : a.count - 0 ≡ a.count = omega arith in
+    (omega arith, omega arith, omega arith, refl, ap (λ (n : ℕ). sets a.o.now 0 (narrowed_all (digits a.n) n a.x.now)) e)
+
+pub scatterer-requires : goal.scatterer-requires
+scatterer-requires c = c in
+    let s = start turn in
+    let l = turn.before.loop in
+    let h = within turn in
+    (s.pre.0, search rules, search rules)
+
+pub loop-i-preserved : goal.loop-i-preserved
+unfolding total
+loop-i-preserved c = c in
+    let turn = stored.before.before.before in
+    let a = (start turn).args in
+    let l = turn.before.loop in
+    let ws = digits a.n in (
+      omega arith,
+      omega arith,
+      omega arith,
+      search rules,
+      all-next ws refl (all-narrow (start turn).requires.0) (a.count - l.i) (a.count - (l.i + 1)) l.at l.q _ a.x.now l.o _ (omega arith) (omega arith) (within turn).0 stored.scatterer.ensures l.invariant.4,
+    )
+
+pub returns : goal.returns
+returns c = c.args in
+    let l = c.loop-i in
+    all-last (digits a.n) (a.count - l.i) l.at l.q a.x.now l.o _ (omega arith) l.invariant.4

@@ -1,0 +1,16 @@
+-- `printing::answer_line` meets its contract. The answer, and the end of its line.
+-- Assumes nothing.
+use native.Mathlib.Omega.{arith}
+use mathlib.Core.Path.{◌∙◌}
+use native.Mathlib.Nat.{zero-add}
+use Rattle.printing.specs.Printing.{answer_text, answer_line}
+use Rattle.printing.proofs.Lines.{laid-byte}
+use Rattle.printing.proofs.answer_line.Goals as goal
+
+pub returns : goal.returns
+unfolding answer_line
+returns c = c in
+    let start = put.before.before.before in
+    let e = put.put-answer.ensures in
+    let h = laid-byte (answer_text start.args.a) start.args.o.now 0 10 (e.0.0, e.1) in
+    ((h.0 ∙ zero-add _, omega arith), h.1)

@@ -1,0 +1,30 @@
+-- `printing::put_signed` meets its contract. The sign and the digits behind it, or the digits alone.
+-- Assumes nothing.
+use mathlib.Core.Path.{◌≡◌}
+use lib.IntN.{negsuc, ◌-ℤ◌}
+use mir.Syntax.{w32}
+use mir.Val.{to_z, of_z}
+use mir.Facts.{to_z-of_z}
+use Rattle.printing.proofs.Signs.{Counted, counted, Plain, plain, put-sign, put-plain}
+use Rattle.printing.proofs.put_signed.Goals as goal
+use Rattle.printing.proofs.put_signed.Goals.{Else-z-lt0, Start, Then-z-lt0}
+
+back : (c : Start) → to_z w32 (of_z w32 c.args.z) ≡ c.args.z
+back c = to_z-of_z c.ranges.z
+
+-- where the number is negative, and where it is not
+known : (c : Then-z-lt0) → Counted c.args.z (to_z w32 (of_z w32 (negsuc 0 -ℤ c.args.z)))
+known c = counted c.args.z c.ranges.z (rw (back (goal.at.Then-z-lt0 c).Start) at c.if-z-lt0.true)
+
+other : (c : Else-z-lt0) → Plain c.args.z
+other c = plain c.args.z c.ranges.z (rw (back (goal.at.Else-z-lt0 c).Start) at c.if-z-lt0.false)
+
+pub returns-then-z-lt0 : goal.returns-then-z-lt0
+returns-then-z-lt0 c = c in
+    let negative = put.before.before in
+    put-sign _ _ _ _ (known negative) (rw (back negative.before.before) at put.put-decimal.ensures)
+
+pub returns-else-z-lt0 : goal.returns-else-z-lt0
+returns-else-z-lt0 c = c in
+    let plain = put.before.before in
+    put-plain _ _ _ (other plain) (rw (back plain.before.before) at put.put-decimal2.ensures)

@@ -1,0 +1,153 @@
+-- `readback::same_segment` meets its contract. Records that fit are compared in the window; longer ones are a dwell's, an HRR segment's, a
+-- text's, or opaque.
+-- Assumes nothing.
+use Prim.Native.Nat.{ℕ, ◌-◌}
+use native.Mathlib.Omega.{arith}
+use mathlib.Core.Path.{◌≡◌, refl, sym, ap, ◌∙◌}
+use mathlib.Core.Bool.{Bool, false}
+use mathlib.Core.List.{List}
+use lib.ListN.{length, take, drop, length-drop}
+use Rattle.octets.proofs.Parts.{tail-is}
+use Rattle.format.specs.declared.Check.TheVariants.{Passed}
+use Rattle.format.specs.Edition.{is_hrr}
+use Rattle.format.specs.Sheet.{body_length, record_of, pieces_of, piece_count, text_records, opaque_records, segment_records, record_bytes}
+use Rattle.format.specs.Lengths.{record_length}
+use Rattle.format.specs.Rows.{first_row, body_rows}
+use Rattle.format.specs.Writer.{is_same}
+use Rattle.format.proofs.Bodies.{text-length}
+use Rattle.format.proofs.ByType.{rows_as}
+use Rattle.format.proofs.Lengths.{records_of, length-one, length-opaque}
+use Rattle.format.proofs.Types.{other-than-hrr}
+use Rattle.segments.specs.InnerWalk.{bytes_of}
+use Rattle.segments.proofs.Types.{length-as, bytes-three}
+use Rattle.readback.proofs.Types.{filled-same, behind-same, longer-is}
+use Rattle.readback.proofs.same_segment.Goals as goal
+use Rattle.readback.proofs.same_segment.Goals.{In_default, Start}
+
+module _ (s : Start) where
+  abbrev b : List ℕ
+  b = s.args.b.now
+
+  abbrev x : List ℕ
+  x = s.args.x.now
+
+  -- the segment's records, were it of type k
+  abbrev bytes_as : ℕ → List ℕ
+  bytes_as k = bytes_of s.args.r k b
+
+  -- an answer on bytes that are the segment's records
+  told : (y : List ℕ) {same : Bool} → bytes_as s.args.segment_type ≡ y → same ≡ is_same y x → same ≡ is_same (bytes_as s.args.segment_type) x
+  told y e h = h ∙ sym (ap (λ (u : List ℕ). is_same u x) e)
+
+  -- in the arm of type k: its rows do not apply, and x is as long as its records
+  module _ (k : ℕ) (e : s.args.segment_type ≡ k) where
+    rows : first_row (body_rows s.args.r k b) ≡ Passed
+    rows = rows_as s.args.r b s.args.segment_type k e s.requires.0.rows
+
+    long : records_of s.args.r k b ≡ length x
+    long = length-as s.args.r b s.args.segment_type k e refl ∙ s.requires.1
+
+    bytes-are : bytes_as s.args.segment_type ≡ bytes_as k
+    bytes-are = ap bytes_as e
+
+  -- what is handed on of a text's body has the length of F3
+  pieces : length (take (length b - 20) (drop 20 b)) ≡ length b - 20
+  pieces = ap length (tail-is 20 b) ∙ length-drop 20 b
+
+  -- a segment of type 3 that is not read field by field is opaque
+  unread : {read : Bool} → s.args.segment_type ≡ 3 → read ≡ is_hrr s.args.r 3 → read ≡ false → bytes_as s.args.segment_type ≡ record_bytes (opaque_records s.args.segment_type b)
+  unread e is h = bytes-three s.args.r b s.args.segment_type e (sym is ∙ h)
+
+  -- an opaque segment's records are as long as x
+  long-opaque : bytes_as s.args.segment_type ≡ record_bytes (opaque_records s.args.segment_type b) → length (record_bytes (opaque_records s.args.segment_type b)) ≡ length x
+  long-opaque e = sym (ap length e) ∙ s.requires.1
+
+-- in the last arm the segment is opaque
+opaque : (c : In_default) → bytes_as (goal.at.In_default c).Start c.args.segment_type ≡ record_bytes (opaque_records c.args.segment_type (b (goal.at.In_default c).Start))
+opaque c =
+    longer-is c.args.r (b (goal.at.In_default c).Start) c.args.segment_type (omega (arith, c.requires.1, c.if-x-le-WINDOW.false)) c.in_default.rest.0.0.1 (other-than-hrr c.args.r c.args.segment_type c.in_default.rest.0.1) c.in_default.rest.1
+
+pub returns-then-x-le-WINDOW : goal.returns-then-x-le-WINDOW
+returns-then-x-le-WINDOW c = c in
+    let test = laid.before.before in
+    let s = test.before.before.before.before in
+    filled-same (bytes_as s s.args.segment-type) (x s) s.args.window.now _ laid.segment-records.ensures.1 s.requires.1 (omega (arith, test.if1.true, s.requires.2)) c.is_front.ensures
+
+pub same_dwell-requires : goal.same_dwell-requires
+unfolding body_rows is_hrr
+same_dwell-requires c = c in
+    let e = c.in-2.is in
+    (rows s 2 e, long s 2 e, s.requires.2)
+
+pub same_hrr-requires : goal.same_hrr-requires
+unfolding body_rows is_hrr
+same_hrr-requires c = c in
+    let s = test.before.before.before.before.before.before in
+    let e = test.before.match.keys2 in
+    let read = sym test.is-hrr-read.ensures ∙ c.if-is_hrr_read.true in
+    (rw read at (rows s 3 e), rw read at (long s 3 e), s.requires.2)
+
+pub same_opaque-requires : goal.same_opaque-requires
+same_opaque-requires c = c in
+    let s = test.before.before.before.before.before.before in
+    (s.requires.0.short, sym (length-opaque s.args.segment-type (b s)) ∙ long-opaque s (unread s test.before.match.keys2 test.is-hrr-read.ensures c.if-is_hrr_read.false), s.requires.2)
+
+pub text_record-requires : goal.text_record-requires
+unfolding body_rows is_hrr
+text_record-requires c = c in
+    (text-length (b s) (rows s 6 c.in-6.is), s.requires.0.short, omega (arith, s.requires.2))
+
+pub slice_bounds-same_with_pieces-count : goal.slice_bounds-same_with_pieces-count
+unfolding body_rows is_hrr
+slice_bounds-same_with_pieces-count c = c in
+    let s = arm.before.before.before.before.before in
+    text-length (b s) (rows s 6 arm.match.keys3)
+
+pub slice_bounds-same_with_pieces-start : goal.slice_bounds-same_with_pieces-start
+slice_bounds-same_with_pieces-start c = omega (arith, sub-same-with-pieces c)
+
+pub same_with_pieces-requires : goal.same_with_pieces-requires
+same_with_pieces-requires c = c in
+    let arm = record-laid.before.before in
+    let s = arm.before.before.before.before.before in
+    let kept = record-laid.text-record.auto in
+    (omega (arith, kept, s.requires.2), omega (arith, long s 6 arm.match.keys3, ap piece_count (pieces s)), omega (arith, kept, s.requires.2))
+
+pub same_opaque-requires-in_default : goal.same_opaque-requires-in_default
+same_opaque-requires-in_default c = c in
+    (s.requires.0.short, sym (length-opaque s.args.segment-type (b s)) ∙ long-opaque s (opaque (goal.at.same_opaque-requires-in_default c).In_default), s.requires.2)
+
+pub returns-in-2 : goal.returns-in-2
+unfolding segment_records
+returns-in-2 c = c in
+    let s = arm.before.before.before.before.before in
+    told s (bytes_as s 2) (bytes-are s 2 arm.match.keys1) c.same_dwell.ensures
+
+pub returns-then-is_hrr_read : goal.returns-then-is_hrr_read
+unfolding segment_records
+returns-then-is_hrr_read c = c in
+    let read = compared.before.before in
+    let test = read.before in
+    let s = test.before.before.before.before.before.before in
+    told s _ (rw (sym test.is-hrr-read.ensures ∙ read.if2.true) at (bytes-are s 3 test.before.match.keys2)) compared.same-hrr.ensures
+
+pub returns-else-is_hrr_read : goal.returns-else-is_hrr_read
+returns-else-is_hrr_read c = c in
+    let read = compared.before.before in
+    let test = read.before in
+    let s = test.before.before.before.before.before.before in
+    told s _ (unread s test.before.match.keys2 test.is-hrr-read.ensures read.if2.false) compared.same-opaque.ensures
+
+pub returns-in-6 : goal.returns-in-6
+unfolding segment_records text_records body_length is_hrr
+returns-in-6 c = c in
+    let record-laid = compared.before.before.before.before.before in
+    let arm = record-laid.before.before in
+    let s = arm.before.before.before.before.before in
+    behind-same (record_of 5 _) (pieces_of (take (length (b s) - 20) (drop 20 (b s)))) (bytes_as s s.args.segment-type) (x s) s.args.window.now _ (record_length 5) record-laid.text-record.ensures (length-one 5 _) (omega (arith, s.requires.2)) compared.same-with-pieces.ensures
+    (rw (tail-is 20 (b s)) (bytes-are s 6 arm.match.keys3))
+
+pub returns-in_default : goal.returns-in_default
+returns-in_default c = c in
+    let s = compared.before.before.before.before.before.before.before in
+    told s _ (opaque compared.before.before) compared.same-opaque2.ensures

@@ -1,0 +1,83 @@
+-- `readback::same_sheet` meets its contract. The header's record, and the records of the segments behind it.
+-- Assumes nothing.
+use Prim.Native.Nat.{ℕ, ◌+◌}
+use native.Mathlib.Omega.{arith}
+use mathlib.Core.Path.{◌≡◌, sym, ap, ◌∙◌}
+use mathlib.Core.List.{List, [], ◌∷◌}
+use borrow.Author.Tests.{not-true, not-false}
+use lib.ListN.{length, take}
+use Rattle.octets.proofs.Parts.{tail-is}
+use Rattle.format.specs.Sheet.{body_length, header_record, record_bytes}
+use Rattle.format.specs.Lengths.{record_length}
+use Rattle.format.specs.Writer.{is_same}
+use Rattle.format.proofs.Lengths.{length-header}
+use Rattle.segments.specs.InnerWalk.{all_bytes}
+use Rattle.segments.proofs.Packets.{behind, Whole, whole}
+use Rattle.readback.proofs.Fronts.{front-is, head-differs, head-same}
+use Rattle.readback.proofs.Rests.{left-length}
+use Rattle.readback.proofs.same_sheet.Goals as goal
+use Rattle.readback.proofs.same_sheet.Goals.{After-header_record, After-reading_of-r}
+
+-- what is known of the packet, where its reading is; x is as long as the sheet
+module _ (c : After-reading_of-r) where
+  abbrev start : Start
+  start = c
+
+  abbrev packet : List ℕ
+  packet = start.args.packet.now
+
+  abbrev x : List ℕ
+  x = start.args.x.now
+
+  abbrev header : List ℕ
+  header = record_bytes (header_record packet ∷ [])
+
+  known : Whole start.args.settings packet c.reading_of-r.result
+  known = whole start.args.settings packet c.reading_of-r.result start.pre.0 c.reading_of-r.ensures
+
+  long : length x ≡ record_length 1 + length (all_bytes c.reading_of-r.result (behind packet))
+  long = sym start.pre.1 ∙ known.sheet-length
+
+-- the header's record stands in the window
+laid : (c : After-header_record) → take (record_length 1) c.header_record.new.1.0 ≡ header (goal.at.After-header_record c).After-reading_of-r
+laid c = front-is (header (goal.at.After-header_record c).After-reading_of-r) (start (goal.at.After-header_record c).After-reading_of-r).args.window.now _ (record_length 1) c.header_record.ensures (length-header (packet (goal.at.After-header_record c).After-reading_of-r)) (omega (arith, (start (goal.at.After-header_record c).After-reading_of-r).requires.2))
+
+pub header_record-requires : goal.header_record-requires
+unfolding body_length
+header_record-requires c = c in ((known r).headed, omega (arith, (start r).requires.2))
+
+pub slice_bounds-is_front-end : goal.slice_bounds-is_front-end
+slice_bounds-is_front-end c = omega (arith, long (goal.at.slice_bounds-is_front-end c).After-reading_of-r)
+
+pub returns-then-not-is_front : goal.returns-then-not-is_front
+returns-then-not-is_front c = c in
+    let h = told.before.before.before.before.before in
+    let r = h.before.before in
+    head-differs (header r) _ (x r) _ (record_length 1) (laid h) (length-header (packet r)) (omega (arith, long r)) told.is_front.ensures (not-true _ c.if-not-is_front.true)
+    ∙ ap (λ (y : List ℕ). is_same y (x r)) (sym (known r).sheet-is)
+
+pub slice_bounds-same_records-count : goal.slice_bounds-same_records-count
+slice_bounds-same_records-count c = omega (arith, (known (goal.at.slice_bounds-same_records-count c).After-reading_of-r).headed)
+
+pub slice_bounds-same_records-start : goal.slice_bounds-same_records-start
+slice_bounds-same_records-start c = omega (arith, (known (goal.at.slice_bounds-same_records-start c).After-reading_of-r).headed)
+
+pub slice_bounds-same_records-count-2 : goal.slice_bounds-same_records-count-2
+slice_bounds-same_records-count-2 c = omega (arith, long (goal.at.slice_bounds-same_records-count-2 c).After-reading_of-r)
+
+pub slice_bounds-same_records-start-2 : goal.slice_bounds-same_records-start-2
+slice_bounds-same_records-start-2 c = omega (arith, long (goal.at.slice_bounds-same_records-start-2 c).After-reading_of-r)
+
+pub same_records-requires : goal.same_records-requires
+same_records-requires c = c in
+    let r = h.before.before in
+    ((known r).checked, sym (left-length (record_length 1) _ (x r) (long r)), omega (arith, (start r).requires.2, h.header-record.auto))
+
+pub returns : goal.returns
+returns c = c in
+    let test = compared.before.before.before.before in
+    let told = test.before in
+    let h = told.before.before.before.before.before in
+    let r = h.before.before in
+    head-same (header r) _ (x r) _ (record_length 1) (laid h) (length-header (packet r)) (omega (arith, long r)) told.is_front.ensures _ (not-false _ test.if1.false) (tail-is (record_length 1) (x r)) compared.same-records.ensures
+    ∙ ap (λ (y : List ℕ). is_same y (x r)) (sym (known r).sheet-is)

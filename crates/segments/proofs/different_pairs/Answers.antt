@@ -1,0 +1,44 @@
+-- `segments::different_pairs` meets its contract. The pairs that are gathered, held against each other.
+-- Assumes nothing.
+use native.Mathlib.Omega.{arith}
+use mathlib.Core.Path.{◌≡◌, sym, ap, ◌∙◌}
+use mathlib.Core.List.{List}
+use Prim.Native.Nat.{ℕ}
+use lib.Dec.{eqb}
+use lib.ListN.{length, take}
+use lib.Seq.{length-sets}
+use Rattle.distinct.specs.Distinct.{without_repeats}
+use Rattle.segments.specs.InnerWalk.{pair_numbers, segments_of}
+use Rattle.segments.proofs.Counting.{numbers-are}
+use Rattle.segments.proofs.Gathering.{stored-front}
+use Rattle.segments.proofs.different_pairs.Goals as goal
+use Rattle.segments.proofs.different_pairs.Goals.{After-pairs_of-n}
+
+-- the pairs stand at the front of the lent array
+front : (c : After-pairs_of-n) → let a = c.args in
+    take c.pairs_of-n.result c.pairs_of-n.new.1.1.0 ≡ pair_numbers (segments_of a.r a.l.now)
+front c =
+    let e = c.pairs_of-n.ensures in
+    stored-front _ _ e.1 e.0.0 (omega (arith, e.0.0, e.0.1))
+
+-- which is as long as before
+as_long : (c : After-pairs_of-n) → length c.pairs_of-n.new.1.1.0 ≡ length c.args.o.now
+as_long c =
+    let a = c.args in
+    ap length c.pairs_of-n.ensures.1 ∙ length-sets a.o.now 0 (pair_numbers (segments_of a.r a.l.now))
+
+pub slice_bounds-count_different-end : goal.slice_bounds-count_different-end
+slice_bounds-count_different-end c = c in omega (arith, as_long p, p.pairs_of.ensures.0.1)
+
+pub slice_bounds-count_different-end-2 : goal.slice_bounds-count_different-end-2
+slice_bounds-count_different-end-2 c = c in p.pairs_of.ensures.0.0 ∙ sym (ap length (front p))
+
+pub shape_of-o : goal.shape_of-o
+shape_of-o c = as_long (goal.at.shape_of-o c).After-pairs_of-n
+
+pub returns : goal.returns
+returns c = c in
+    let s = p.before.before.before.before in
+    c.count_different.ensures
+    ∙ ap (λ (x : List ℕ). length (without_repeats eqb x)) (front p)
+    ∙ numbers-are s.args.r s.args.l.now (λ i. (p.before.before.before.shared-slice-known.given i).fits)

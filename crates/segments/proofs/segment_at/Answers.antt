@@ -1,0 +1,59 @@
+-- `segments::segment_at` meets its contract. A segment to which no row applies is found with its size and what it adds to the answer.
+-- Assumes nothing.
+use native.Mathlib.Omega.{arith}
+use mathlib.Core.Path.{◌≡◌, refl, sym, ◌∙◌}
+use Rattle.format.specs.declared.Check.TheVariants.{Passed}
+use Rattle.format.specs.Packet.{type_at}
+use Rattle.format.specs.Rows.{first_row, segment_rows}
+use Rattle.format.proofs.Rows.{Segmented, segment-passes}
+use Rattle.format.proofs.Segments.{body-part}
+use Rattle.format.proofs.Filling.{Handed, handed}
+use Rattle.segments.proofs.Walking.{handed-checked, found-good, found-bad}
+use Rattle.segments.proofs.segment_at.Goals as goal
+use Rattle.segments.proofs.segment_at.Goals.{After-shared_slice_known-in-Passed-1, After-size_at-size}
+
+-- no row applies
+passed : (c : After-shared_slice_known-in-Passed-1) → let a = c.args in first_row (segment_rows a.r a.l.now) ≡ Passed
+passed c = sym c.segment_check.ensures ∙ c.in-Passed.is
+
+known : (c : After-shared_slice_known-in-Passed-1) → let a = c.args in Segmented a.r a.l.now
+known c = let a = c.args in segment-passes a.r a.l.now (passed c)
+
+-- what is handed on
+part : (c : After-size_at-size) → let a = c.args in Handed a.r a.l.now a.l.now 0 c.size_at-size.result
+part c = let a = c.args in handed a.r a.l.now a.l.now 0 _ refl c.size_at-size.ensures (passed (goal.at.After-size_at-size c).After-shared_slice_known-in-Passed-1)
+
+pub bounds-l-0 : goal.bounds-l-0
+bounds-l-0 c = omega (arith, (known (goal.at.bounds-l-0 c).After-shared_slice_known-in-Passed-1).header, (known (goal.at.bounds-l-0 c).After-shared_slice_known-in-Passed-1).within)
+
+pub size_at-size-requires : goal.size_at-size-requires
+size_at-size-requires c = omega (arith, (known (goal.at.size_at-size-requires c).After-shared_slice_known-in-Passed-1).header, (known (goal.at.size_at-size-requires c).After-shared_slice_known-in-Passed-1).within)
+
+pub slice_bounds-b-count : goal.slice_bounds-b-count
+slice_bounds-b-count c = (part (goal.at.slice_bounds-b-count c).After-size_at-size).header
+
+pub slice_bounds-b-start : goal.slice_bounds-b-start
+slice_bounds-b-start c = omega (arith, (part (goal.at.slice_bounds-b-start c).After-size_at-size).header)
+
+pub slice_bounds-b-end : goal.slice_bounds-b-end
+slice_bounds-b-end c = omega (arith, (part (goal.at.slice_bounds-b-end c).After-size_at-size).within)
+
+pub targets_in-requires : goal.targets_in-requires
+targets_in-requires c = c in
+    handed-checked s.args.r s.args.l.now s.args.l.now 0 _ s.requires (part (goal.at.targets_in-requires c).After-size_at-size)
+
+pub records_length-requires : goal.records_length-requires
+records_length-requires c = c in
+    handed-checked s.args.r s.args.l.now s.args.l.now 0 _ s.requires (part (goal.at.records_length-requires c).After-size_at-size)
+
+pub returns-in-Failed : goal.returns-in-Failed
+returns-in-Failed c = c.args in
+    found-bad a.r a.l.now _ _ (sym c.segment_check.ensures ∙ c.in-Failed.is)
+
+pub returns-in-Passed : goal.returns-in-Passed
+unfolding type_at
+returns-in-Passed c = c in
+    let size = targets.before.before in
+    let a = size.before.before.before.before.before.before.args in
+    found-good a.r a.l.now _ (passed size.before) size.size-at.ensures
+    (body-part a.l.now _ size.size-at.ensures (part size).header) targets.targets-in.ensures.0 c.records_length.ensures

@@ -1,0 +1,45 @@
+-- `sheet_walk::scatterers_behind` meets its contract. The fields stand behind the mask; each width is cut to two bytes.
+-- Assumes nothing.
+use mathlib.Core.Path.{◌≡◌, ap, ◌∙◌}
+use native.Mathlib.Omega.{arith}
+use lib.ListN.{drop, length-drop}
+use Rattle.octets.specs.Layout.{total}
+use Rattle.octets.proofs.Parts.{tail-is}
+use Rattle.mask.specs.Fields.{d32}
+use Rattle.hrr.specs.declared.Scatterers.{Scatterers}
+use Rattle.hrr.specs.Hrr.{hrr_mask, index_width}
+use Rattle.hrr.specs.InnerScatterers.{scatterers_of, spelt_of}
+use Rattle.hrr.proofs.Numbers.{taken-most}
+use Rattle.format.specs.Sheet.{body_length}
+use Rattle.sheet_walk.proofs.scatterers_behind.Goals as goal
+
+pub mask_of-requires : goal.mask_of-requires
+unfolding body_length
+mask_of-requires c = omega arith
+
+pub slice_bounds-scatterers_of-count : goal.slice_bounds-scatterers_of-count
+unfolding body_length
+slice_bounds-scatterers_of-count c = omega (arith, c.requires)
+
+pub slice_bounds-scatterers_of-start : goal.slice_bounds-scatterers_of-start
+unfolding body_length
+slice_bounds-scatterers_of-start c = omega (arith, c.requires)
+
+pub scatterers_of-s-requires : goal.scatterers_of-s-requires
+unfolding body_length total
+scatterers_of-s-requires c = rw (tail-is 5 c.args.b.now, length-drop) (omega (arith, c.requires))
+
+pub returns : goal.returns
+returns c = c in
+    let masked = all.before.before in
+    let b = masked.before.before.args.b.now in
+    let mask = hrr_mask b in
+    let m = c.spelt.ensures in
+    let p = c.spelt-2.ensures in
+    let r = c.spelt-3.ensures in
+    let d = c.spelt-4.ensures in
+    let is : all.scatterers-of.result ≡ scatterers_of (hrr_mask b) (drop 5 b) = all.scatterers-of.ensures.0 ∙ rw (masked.mask-of.ensures, tail-is 5 b) in (
+      rw (m, p, r, d) (ap spelt_of is),
+      all.scatterers-of.ensures.1.4,
+      (omega arith, omega arith, omega (arith, r, ap (λ (k : Scatterers). k.range) is, taken-most mask (d32 3) index_width), omega (arith, d, ap (λ (k : Scatterers). k.doppler) is, taken-most mask (d32 4) index_width)),
+    )

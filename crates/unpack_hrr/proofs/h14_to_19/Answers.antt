@@ -1,0 +1,36 @@
+-- `unpack_hrr::h14_to_19` meets its contract. Each field is laid out where the one before it ends.
+-- Assumes nothing.
+use native.Mathlib.Omega.{arith}
+use borrow.Author.Rules.{rules}
+use Rattle.octets.specs.Layout.{total}
+use Rattle.mask.specs.Fields.{announced_length}
+use Rattle.unpack.proofs.Lines.{onward}
+use Rattle.unpack_hrr.proofs.h14_to_19.Goals as goal
+
+-- where the function begins, from the last field on
+abbrev start : After-field2-arg-1 → Start
+start c =
+    let h18 = c.before.before.before in
+    let h17 = h18.before.before.before.before in
+    let h16 = h17.before.before.before.before in
+    let h15 = h16.before.before.before.before in
+    let h14 = h15.before.before.before.before in
+    h14.before.before.before.before
+
+pub overflow_add-q-5 : goal.overflow_add-q-5
+unfolding total
+overflow_add-q-5 c = start c in omega (arith, s.good, s.pre)
+
+pub field2-requires : goal.field2-requires
+unfolding announced_length total
+field2-requires c = (start c).requires in search rules
+
+pub returns : goal.returns
+unfolding total
+returns c = c in
+    let h18 = h19.before.before.before.before in
+    let h17 = h18.before.before.before.before in
+    let h16 = h17.before.before.before.before in
+    let h15 = h16.before.before.before.before in
+    let h14 = h15.before.before.before.before in
+    onward (onward (onward (onward (onward h14.field4.ensures h15.field42.ensures) h16.field1.ensures) h17.field12.ensures) h18.field13.ensures) h19.field2.ensures

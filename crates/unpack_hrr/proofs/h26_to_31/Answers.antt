@@ -1,0 +1,36 @@
+-- `unpack_hrr::h26_to_31` meets its contract. Each field is laid out where the one before it ends.
+-- Assumes nothing.
+use native.Mathlib.Omega.{arith}
+use borrow.Author.Rules.{rules}
+use Rattle.octets.specs.Layout.{total}
+use Rattle.mask.specs.Fields.{announced_length}
+use Rattle.unpack.proofs.Lines.{onward}
+use Rattle.unpack_hrr.proofs.h26_to_31.Goals as goal
+
+-- where the function begins, from the last field on
+abbrev start : After-field4-arg-3-1 → Start
+start c =
+    let h30 = c.before.before.before in
+    let h29 = h30.before.before.before.before in
+    let h28 = h29.before.before.before.before in
+    let h27 = h28.before.before.before.before in
+    let h26 = h27.before.before.before.before in
+    h26.before.before.before.before
+
+pub overflow_add-q-5 : goal.overflow_add-q-5
+unfolding total
+overflow_add-q-5 c = start c in omega (arith, s.good, s.pre)
+
+pub field4-requires : goal.field4-requires
+unfolding announced_length total
+field4-requires c = (start c).requires in search rules
+
+pub returns : goal.returns
+unfolding total
+returns c = c in
+    let h30 = h31.before.before.before.before in
+    let h29 = h30.before.before.before.before in
+    let h28 = h29.before.before.before.before in
+    let h27 = h28.before.before.before.before in
+    let h26 = h27.before.before.before.before in
+    onward (onward (onward (onward (onward h26.field1.ensures h27.field12.ensures) h28.field4.ensures) h29.field13.ensures) h30.field42.ensures) h31.field43.ensures

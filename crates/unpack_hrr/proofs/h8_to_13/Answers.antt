@@ -1,0 +1,36 @@
+-- `unpack_hrr::h8_to_13` meets its contract. Each field is laid out where the one before it ends.
+-- Assumes nothing.
+use native.Mathlib.Omega.{arith}
+use borrow.Author.Rules.{rules}
+use Rattle.octets.specs.Layout.{total}
+use Rattle.mask.specs.Fields.{announced_length}
+use Rattle.unpack.proofs.Lines.{onward}
+use Rattle.unpack_hrr.proofs.h8_to_13.Goals as goal
+
+-- where the function begins, from the last field on
+abbrev start : After-field4-arg-1 → Start
+start c =
+    let h12 = c.before.before.before in
+    let h11 = h12.before.before.before.before in
+    let h10 = h11.before.before.before.before in
+    let h9 = h10.before.before.before.before in
+    let h8 = h9.before.before.before.before in
+    h8.before.before.before.before
+
+pub overflow_add-q-5 : goal.overflow_add-q-5
+unfolding total
+overflow_add-q-5 c = start c in omega (arith, s.good, s.pre)
+
+pub field4-requires : goal.field4-requires
+unfolding announced_length total
+field4-requires c = (start c).requires in search rules
+
+pub returns : goal.returns
+unfolding total
+returns c = c in
+    let h12 = h13.before.before.before.before in
+    let h11 = h12.before.before.before.before in
+    let h10 = h11.before.before.before.before in
+    let h9 = h10.before.before.before.before in
+    let h8 = h9.before.before.before.before in
+    onward (onward (onward (onward (onward h8.field2.ensures h9.field1.ensures) h10.field12.ensures) h11.field22.ensures) h12.field23.ensures) h13.field4.ensures

@@ -1,0 +1,13 @@
+-- `vectors::is_hex` meets its contract. The loop keeps that the characters left decide.
+-- Assumes nothing.
+use Prim.Native.Nat.{◌≤◌, ◌-◌}
+use mathlib.Core.Path.{◌≡◌}
+use lib.ListN.{length, drop}
+use Rattle.vectors.specs.Vectors.{is_hex}
+use Rattle.vectors.proofs.is_hex.Given as goal
+
+abbrev pub invariant-loop-i : goal.invariant-loop-i
+invariant-loop-i l = (l.i ≤ length l.s) × (is_hex (drop l.i l.s) ≡ is_hex l.s)
+
+abbrev pub decreases-loop-i : goal.decreases-loop-i
+decreases-loop-i l = length l.s - l.i

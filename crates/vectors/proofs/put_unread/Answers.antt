@@ -1,0 +1,18 @@
+-- `vectors::put_unread` meets its contract. The name, and what is said of the line.
+-- Assumes nothing.
+use native.Mathlib.Omega.{arith}
+use native.Mathlib.Nat.{zero-add}
+use mathlib.Core.Path.{◌∙◌}
+use lib.ListN.{length-set}
+use Rattle.vectors.proofs.Spellings.{label-laid, unread-laid}
+use Rattle.vectors.proofs.put_unread.Goals as goal
+
+pub shape_of-o : goal.shape_of-o
+shape_of-o c = rw length-set (c.put_fault-q.auto.0 ∙ c.put_name-p.auto.0)
+
+pub returns : goal.returns
+returns c = c.args in
+    let n = c.put_name-p.ensures in
+    let e = c.put_fault-q.ensures in
+    let h = unread-laid a.name.now a.o.now a.f (label-laid a.name.now a.o.now n.0 n.1) (e.0.0, e.1) in
+    ((h.0 ∙ zero-add _, rw length-set (omega (arith, c.put_fault-q.auto.0, c.put_name-p.auto.0))), h.1)

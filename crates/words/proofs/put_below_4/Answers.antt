@@ -1,0 +1,18 @@
+-- `words::put_below_4` meets its contract. Where there are two or more, these are the lower ones.
+-- Assumes nothing.
+use mathlib.Core.Path.{◌≡◌, ap, ◌∙◌}
+use Prim.Native.Nat.{ℕ, ◌+◌, ◌-◌}
+use native.Mathlib.Omega.{arith}
+use lib.Seq.{sets}
+use Rattle.words.specs.InnerWords.{low}
+use Rattle.words.proofs.Words.{stored}
+use Rattle.words.proofs.put_below_4.Goals as goal
+
+pub returns-else-n-lt2 : goal.returns-else-n-lt2
+returns-else-n-lt2 c = c in
+    let lower = upper.before.before.before.before in
+    let else = lower.before.before in
+    let a = else.before.before.args in
+    let all : 2 + (a.n - 2) ≡ a.n = omega (arith, else.if1.false) in
+    stored 2 (a.n - 2) a.q a.v a.o.now lower.put2.ensures upper.put-below-22.ensures
+    ∙ ap (λ (n : ℕ). sets a.o.now a.q (low n a.v)) all

@@ -1,0 +1,32 @@
+-- `writer::read_back` meets its contract. What the packet's rows answer and what the sheet is decide row 19.
+-- Assumes nothing.
+use mathlib.Core.Path.{sym, ◌∙◌}
+use mathlib.Core.Logic.{⊎_elim}
+use Rattle.writer.proofs.ReadingBack.{reread-refused, comparable, reread-not, reread-other, reread-same}
+use Rattle.writer.proofs.read_back.Goals as goal
+
+pub is_sheet-requires : goal.is_sheet-requires
+is_sheet-requires c = c in
+    let s = checked.before.before.before in
+    comparable s.args.packet.now s.args.x.now s.requires _ checked.check.ensures _ _ _ _ c.in-Accepted.is c.if-length-x.true
+
+pub returns-in-Refused : goal.returns-in-Refused
+returns-in-Refused c = c in
+    let s = checked.before.before.before in
+    c.refused.ensures
+    ∙ reread-refused s.args.packet.now s.args.x.now s.requires _ checked.check.ensures _ _ _ c.in-Refused.is
+
+pub returns-then-is_sheet : goal.returns-then-is_sheet
+returns-then-is_sheet c = c in
+    let s = checked.before.before.before in
+    reread-same s.args.packet.now s.args.x.now s.requires _ checked.check.ensures _ _ _ _ c.in-Accepted.is (sym c.is_sheet.ensures ∙ c.if-is_sheet.true)
+
+pub returns-else-length-x : goal.returns-else-length-x
+returns-else-length-x c = c in
+    let s = checked.before.before.before in
+    let answer = c.in-Accepted.is in
+    c.refused-else-length-x.ensures
+    ∙ ⊎_elim
+    (λ w. reread-not s.args.packet.now s.args.x.now s.requires _ checked.check.ensures _ _ _ _ answer (sym w.1.ensures ∙ w.2.left))
+    (λ w. reread-other s.args.packet.now s.args.x.now s.requires _ checked.check.ensures _ _ _ _ answer w.left)
+    c.else-length-x.branch
