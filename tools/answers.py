@@ -132,6 +132,10 @@ class Turn:
             n, arm, new = found
             return self.tail(f"{root}.{arm}.{new}", new, rest[n:])
         new = self.step(line, step) or self.step(whole, step)
+        for p in self.names["places"]:
+            if rest and plain(p[2][0]) == plain(step) and p[0] in whole:
+                rest = [dict((plain(a), b) for a, b in p[4]).get(plain(rest[0]), rest[0])] + rest[1:]
+                break
         if new is None:
             self.say(f"step {step} in {root}.{'.'.join(parts)}")
             new = step
@@ -327,19 +331,20 @@ def turned(crate, function, names, text):
             for i in goal_of[name]:
                 old, new = needs[i]
                 at = names["asked_at"][i][0]
-                m = re.search(r"(?m)^" + re.escape(name) + r"((?:\s+" + NAME + r")*)\s*=(?=\s)(.*)$", code, re.S)
+                m = re.search(r"(?m)^" + re.escape(name) + r"((?:\s+[^\s=(){}]+)*?)\s*=(?=\s)(.*)$", code, re.S)
                 if not m:
                     t.say(f"{name}: no equation")
                     continue
-                params = m[1].split()
+                params = [x for x in m[1].split() if x != "κs"]
                 c = params[0] if params else "c"
+                more = "".join(" " + x for x in params[1:])
                 term = t.term(m[2], {c: ("place", at)}, ("goal", new))
                 if c != "c":
                     term = re.sub(r"(?<![\w'.-])" + re.escape(c) + r"(?=[.\s)])", "c", term)
                 unf = re.search(r"(?m)^unfolding .*$", code)
                 if not unf and term.strip() in TRIVIAL:
                     continue
-                ans.append(f"{comment}pub {new} : goal.{new}\n" + (unf[0] + "\n" if unf else "") + f"{new} c ={term}")
+                ans.append(f"{comment}pub {new} : goal.{new}\n" + (unf[0] + "\n" if unf else "") + f"{new} c{more} ={term}")
             continue
         # a helper
         if "tie." in code or any(re.search(r"(?<![\w'.-])" + re.escape(a) + r"(?![\w'-])", code) for a in aliases):
@@ -350,7 +355,7 @@ def turned(crate, function, names, text):
                 continue
             env = {}
             at = None
-            for v, ty in re.findall(r"\((" + NAME + r") : (tie\." + NAME + "|" + NAME + r")(?: invariant-loop\S*)?(?: decreases-loop\S*)?\)", code):
+            for v, ty in re.findall(r"\((" + NAME + r") : (tie\." + NAME + "|" + NAME + r")(?: invariant-loop[\w-]*)?(?: decreases-loop[\w-]*)?\)", code):
                 pl = place_of(ty)
                 if pl:
                     pl = pl if pl in t.new_place else places.get(plain(pl), pl)
@@ -368,7 +373,7 @@ def turned(crate, function, names, text):
                 pl = pl if pl in t.new_place else places.get(plain(pl), pl)
                 return t.new_place.get(pl, m[1])
 
-            code = re.sub(r"(tie\." + NAME + r")((?: invariant-loop\S*)?(?: decreases-loop\S*)?)(?=[\s)])", lambda m: place_type(m) if place_of(m[1]) else m[0], code)
+            code = re.sub(r"(tie\." + NAME + r")((?: invariant-loop[\w-]*)?(?: decreases-loop[\w-]*)?)(?=[\s)])", lambda m: place_type(m) if place_of(m[1]) else m[0], code)
             for a, pl in aliases.items():
                 pl = pl if pl in t.new_place else places.get(plain(pl), pl)
                 code = re.sub(r"(?<![\w'.-])" + re.escape(a) + r"(?![\w'-])", t.new_place.get(pl, a), code)

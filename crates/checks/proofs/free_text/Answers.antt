@@ -7,7 +7,8 @@ use Rattle.checks.proofs.free_text.Goals as goal
 
 pub returns : goal.returns
 unfolding text_fault field total
-returns c = c in
+returns c tie.Need-returns unfolding text_fault field total returns c =
+    let third = c.before in
     let second = third.before.before in
     let first = second.before.before in
-    first-is 1 2 3 first.is-line.ensures second.is-line2.ensures third.is-text.ensures c.first_failed.ensures
+    first-is 1 2 3 first.is-line.ensures second.is-line2.ensures third.is-text.ensures c.first-failed.ensures

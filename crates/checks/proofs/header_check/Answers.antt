@@ -19,18 +19,18 @@ from k c = first_row (drop k (header_rows c.args.settings c.args.l.now))
 -- row 1 does not apply
 past-1 : (c : Else-not-is_edition) → from 0 c ≡ from 1 c
 unfolding first_row header_rows
-past-1 c = rw (sym c.is_edition.ensures ∙ not-false _ c.if-not-is_edition.false)
+past-1 c = rw (sym c.is_edition.ensures ∙ not-false _ c.if-not-is_edition.false-raw)
 
 -- nor does row 2
 past-2 : (c : Else-l-gt65536) → from 0 c ≡ from 2 c
 unfolding first_row header_rows
 past-2 c =
-    past-1 (goal.at.Else-l-gt65536 c).Else-not-is_edition ∙ rw (le-ltb (length c.args.l.now) 32 c.if-l-lt32.false, c.if-l-gt65536.false)
+    past-1 (goal.at.Else-l-gt65536 c).Else-not-is_edition ∙ rw (le-ltb (length c.args.l.now) 32 c.if-l-lt32.false, c.if-l-gt65536.false-raw)
 
 -- nor row 3
 past-3 : (c : Else-not-is_version) → from 0 c ≡ from 3 c
 unfolding first_row header_rows is_p1
-past-3 c = past-2 (goal.at.Else-not-is_version c).Else-l-gt65536 ∙ rw (sym c.is_version.ensures ∙ not-false _ c.if-not-is_version.false)
+past-3 c = past-2 (goal.at.Else-not-is_version c).Else-l-gt65536 ∙ rw (sym c.is_version.ensures ∙ not-false _ c.if-not-is_version.false-raw)
 
 -- nor row 4
 past-4 : (c : Else-get_u32-l) → from 0 c ≡ from 4 c
@@ -41,27 +41,29 @@ past-4 c =
 
 pub returns-then-not-is_edition : goal.returns-then-not-is_edition
 unfolding first_row header_rows
-returns-then-not-is_edition c = rw (sym c.is_edition.ensures ∙ not-true _ c.if-not-is_edition.true)
+returns-then-not-is_edition c tie.Need-returns unfolding first_row header_rows returns c = rw (sym c.before.is-edition.ensures ∙ not-true _ c.if1.true)
 
 pub returns-then-l-lt32 : goal.returns-then-l-lt32
 unfolding first_row header_rows
-returns-then-l-lt32 c = length c.args.l.now in
+returns-then-l-lt32 c tie.Need-returns-2 unfolding first_row header_rows returns-2 c =
+    let n = length c.before.before.before.before.args.l.now in
     sym
-    (past-1 (goal.at.returns-then-l-lt32 c).Else-not-is_edition
+    (past-1 c.before
     ∙ ⊎_elim
     (λ w. rw (lt-ltb n 32 w.taken))
     (λ w. rw (le-ltb n 32 w.0.left, w.1.taken))
-    c.then-l-lt32.branch)
+    c.if2.branch)
 
 pub returns-then-not-is_version : goal.returns-then-not-is_version
 unfolding first_row header_rows is_p1
-returns-then-not-is_version c = sym (past-2 (goal.at.returns-then-not-is_version c).Else-l-gt65536 ∙ rw (sym c.is_version.ensures ∙ not-true _ c.if-not-is_version.true))
+returns-then-not-is_version c tie.Need-returns-3 unfolding first_row header_rows is_p1 returns-3 c = sym (past-2 c.before.before.before.before ∙ rw (sym c.before.is-version.ensures ∙ not-true _ c.if4.true))
 
 pub returns-then-get_u32-l : goal.returns-then-get_u32-l
 unfolding first_row header_rows value total
-returns-then-get_u32-l c = c.args.l.now in
-    sym (past-3 (goal.at.returns-then-get_u32-l c).Else-not-is_version ∙ rw (ne_eqb (P 2 l) (length l) (λ e. c.if-get_u32-l.true (c.get_u32.ensures ∙ e))))
+returns-then-get_u32-l c tie.Need-returns-4 unfolding first_row header_rows value total returns-4 c =
+    let l = c.before.before.before.before.before.before.before.before.before.before.before.args.l.now in
+    sym (past-3 c.before.before ∙ rw (ne_eqb (P 2 l) (length l) (λ e. c.if5.true (c.before.get-u32.ensures ∙ e))))
 
 pub returns : goal.returns
 unfolding header_rows
-returns c = sym (past-4 (goal.at.returns c).Else-get_u32-l ∙ rw (sym c.header_text.ensures) (sym c.naming_row.ensures))
+returns c tie.Need-returns-5 unfolding header_rows returns-5 c = sym (past-4 c.before.before ∙ rw (sym c.before.header-text.ensures) (sym c.naming-row.ensures))

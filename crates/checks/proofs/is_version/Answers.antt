@@ -9,7 +9,7 @@ use Rattle.checks.proofs.is_version.Goals as goal
 use Rattle.checks.proofs.is_version.Goals.{Joined-first-eq49}
 
 -- the value of the first character's test
-first-is : (c : Joined-first-eq49) → c.if-first-eq49.if2 ≡ (eqb c.args.first 0x31 || eqb c.args.first 0x33)
+first-is : (c : Joined-first-eq49) → c.if-first-eq49.t-4 ≡ (eqb c.args.first 0x31 || eqb c.args.first 0x33)
 first-is c =
     ⊎_elim
     (λ w. let e = eq-eqb c.args.first 0x31 w.0.taken in rw e (w.1 ∙ e))
@@ -17,10 +17,10 @@ first-is c =
     c.if-first-eq49.branch
 
 pub returns-then-second-ge48 : goal.returns-then-second-ge48
-returns-then-second-ge48 c = rw (sym (first-is (goal.at.returns-then-second-ge48 c).Joined-first-eq49) ∙ c.if-first-eq51.true, le-leb 0x30 c.args.second c.if-second-ge48.true)
+returns-then-second-ge48 c tie.Need-returns returns c = rw (sym (first-is c.before.before) ∙ c.before.if2.true, le-leb 0x30 c.before.before.before.args.second c.if3.true)
 
 pub returns-else-second-ge48 : goal.returns-else-second-ge48
-returns-else-second-ge48 c = rw (sym (first-is (goal.at.returns-else-second-ge48 c).Joined-first-eq49) ∙ c.if-first-eq51.true, lt-leb 0x30 c.args.second c.if-second-ge48.false)
+returns-else-second-ge48 c tie.Need-returns-2 returns-2 c = rw (sym (first-is c.before.before) ∙ c.before.if2.true, lt-leb 0x30 c.before.before.before.args.second c.if3.false)
 
 pub returns-else-first-eq51 : goal.returns-else-first-eq51
-returns-else-first-eq51 c = rw (sym (first-is (goal.at.returns-else-first-eq51 c).Joined-first-eq49) ∙ c.if-first-eq51.false) c.if-first-eq51.false
+returns-else-first-eq51 c tie.Need-returns-3 returns-3 c = rw (sym (first-is c.before) ∙ c.if2.false) c.if2.false

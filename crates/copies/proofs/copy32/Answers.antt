@@ -7,7 +7,8 @@ use Rattle.copies.proofs.Copied.{copied, copied-both}
 use Rattle.copies.proofs.copy32.Goals as goal
 
 pub returns : goal.returns
-returns c = c in
+returns c tie.Need-returns returns c =
+    let fourth = c.before.before in
     let third = fourth.before.before.before.before in
     let second = third.before.before.before.before in
     let first = second.before.before.before.before in
@@ -17,7 +18,7 @@ returns c = c in
     let o = start.args.o.now in
     let p = start.args.p in
     let q = start.args.q in
-    let are_bytes : Bytes s = λ i. (loaded.before.before.before.before.before.shared-slice-known.given i).fits in
+    let are_bytes c Bytes s = λ i. (loaded.before.before.before.before.before.shared-slice-known.given i).fits in
     let a = copied 8 s o p q are_bytes (omega arith) loaded.before.before.before.get-u64.ensures first.put-u64.ensures in
     let b = copied 8 s _ (p + 8) (q + 8) are_bytes (omega arith) loaded.before.before.get-u642.ensures second.put-u642.ensures in
     let c₃ = copied 8 s _ (p + 16) (q + 16) are_bytes (omega arith) loaded.before.get-u643.ensures third.put-u643.ensures in

@@ -19,34 +19,40 @@ use Rattle.dwell_checks.proofs.Positions.{area-is}
 use Rattle.dwell_checks.proofs.area.Goals as goal
 
 pub i32_if-requires : goal.i32_if-requires
-i32_if-requires c = c in
+i32_if-requires c tie.Need-i32-if-requires i32-if-requires c =
+    let s = c.before in
     let m = s.args.mask in
     (lit≤ tt, lit≤ tt, field_room m 2 10 dwell_widths (lit≤ tt) (lit< tt) s.args.b.now 8 31 (omega (arith, before-10 m s.requires.0.1)) s.requires.0.2)
 
 pub u32_if-requires : goal.u32_if-requires
-u32_if-requires c = c in
+u32_if-requires c tie.Need-u32-if-requires u32-if-requires c =
+    let s = c.before.before.before.before in
     let m = s.args.mask in
-    (lit≤ tt, lit≤ tt, field_room m 2 11 dwell_widths (lit≤ tt) (lit< tt) s.args.b.now 8 (31 + c.width_if.result) (omega (arith, before-11 m s.requires.0.1)) s.requires.0.2)
+    (lit≤ tt, lit≤ tt, field_room m 2 11 dwell_widths (lit≤ tt) (lit< tt) s.args.b.now 8 (31 + c.width-if.result) (omega (arith, before-11 m s.requires.0.1)) s.requires.0.2)
 
 pub get_i32-requires : goal.get_i32-requires
 unfolding is_required
-get_i32-requires c = c in
+get_i32-requires c tie.Need-get-i32-requires unfolding is_required get-i32-requires c =
+    let s = c.before.before.before.before.before in
     field_room s.args.mask 2 24 dwell_widths (lit≤ tt) (lit< tt) s.args.b.now 8 s.args.at s.requires.1 s.requires.0.2 (s.requires.0.1 24 refl)
 
 pub overflow_add-at : goal.overflow_add-at
 unfolding total
-overflow_add-at c = c in
+overflow_add-at c tie.Need-overflow-add-get-u32 unfolding total add-get-u32 c =
+    let s = c.before.before.before.before.before.before.before in
     omega (arith, s.requires.1, announced-le s.args.mask 2 (widths 2 23))
 
 pub get_u32-requires : goal.get_u32-requires
 unfolding is_required
-get_u32-requires c = c in
+get_u32-requires c tie.Need-get-u32-requires unfolding is_required get-u32-requires c =
+    let s = c.before.before.before.before.before.before.before in
     let m = s.args.mask in
     field_room m 2 25 dwell_widths (lit≤ tt) (lit< tt) s.args.b.now 8 (s.args.at + 4) (omega (arith, s.requires.1, before-25 m s.requires.0.1)) s.requires.0.2 (s.requires.0.1 25 refl)
 
 pub returns : goal.returns
 unfolding is_required
-returns c = c in
+returns c tie.Need-returns unfolding is_required returns c =
+    let e24 = c.before.before in
     let e11 = e24.before in
     let e10 = e11.before.before.before in
     let s = e10.before.before in
@@ -59,8 +65,8 @@ returns c = c in
           (e11.before.before.latitude-steps.ensures.0 ∙ to_z-of_z (sfits_of {w = w32} {z = x.result} x.type-inv)
           ∙ field-signed m 2 10 dwell_widths (lit≤ tt) (lit< tt) b 8 31 (omega (arith, before-10 m h.1)) x.ensures ∙ by_mask (D± 10) b m h.0)
           (field-read m 2 11 dwell_widths (lit≤ tt) (lit< tt) b 8 (31 + e11.before.width-if.result) (omega (arith, before-11 m h.1)) e11.u32-if.ensures ∙ by_mask (D 11) b m h.0)
-          (c.latitude_steps-2.ensures.0 ∙ to_z-of_z (sfits_of {w = w32} {z = z.result} z.type-inv)
+          (c.before.latitude-steps2.ensures.0 ∙ to_z-of_z (sfits_of {w = w32} {z = z.result} z.type-inv)
           ∙ signed-there m 2 24 dwell_widths (lit≤ tt) (lit< tt) b 8 s.args.at (h.1 24 refl) s.requires.1 z.ensures ∙ by_mask (D± 24) b m h.0)
-          (value_there m 2 25 dwell_widths (lit≤ tt) (lit< tt) b 8 (s.args.at + 4) (h.1 25 refl) (omega (arith, s.requires.1, before-25 m h.1)) c.get_u32.ensures ∙ by_mask (D 25) b m h.0),
-      (e11.before.before.latitude-steps.ensures.1, c.latitude_steps-2.ensures.1),
+          (value_there m 2 25 dwell_widths (lit≤ tt) (lit< tt) b 8 (s.args.at + 4) (h.1 25 refl) (omega (arith, s.requires.1, before-25 m h.1)) c.get-u32.ensures ∙ by_mask (D 25) b m h.0),
+      (e11.before.before.latitude-steps.ensures.1, c.before.latitude-steps2.ensures.1),
     )

@@ -8,10 +8,11 @@ use Rattle.dwell_records.proofs.dwell_record.Goals as goal
 
 pub dwell_fields-requires : goal.dwell_fields-requires
 unfolding total
-dwell_fields-requires c = search rules
+dwell_fields-requires c tie.Need-dwell-fields-requires unfolding total dwell-fields-requires c = search rules
 
 pub returns : goal.returns
-returns c = c in
+returns c tie.Need-returns returns c =
+    let last = c.before.before in
     let mark = last.before in
     let withheld = mark.before.before.before.before in
     let fields = withheld.before.before.before.before in

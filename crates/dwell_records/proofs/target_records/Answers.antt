@@ -18,42 +18,44 @@ use Rattle.dwell_records.proofs.target_records.Goals as goal
 use Rattle.dwell_records.proofs.target_records.Goals.{In-loop-i}
 
 -- in a turn the target lies within, and its record has room
-within : (c : In-loop-i → let l = c.loop-i in
+within : (c : In-loop-i) → let l = c.loop-i in
     (l.at + c.args.p.each ≤ length c.args.t.now) × (l.q + record_length 4 ≤ length l.o)
 within c =
     let l = c.loop-i in
     (omega (arith, room l.i c.args.count c.args.p.each (length c.args.t.now) (omega arith) c.requires.0.1, l.invariant.1), omega (arith, l.invariant.2, l.invariant.3, c.requires.1))
 
 -- and others are left behind it
-left : (c : In-loop-i → let n = c.args.count in n - c.loop-i.i ≡ suc (n - (c.loop-i.i + 1))
+left : (c : In-loop-i) → let n = c.args.count in n - c.loop-i.i ≡ suc (n - (c.loop-i.i + 1))
 left c = omega arith
 
 pub loop-i-init : goal.loop-i-init
-loop-i-init c = c in
+loop-i-init c tie.Need-loop-init invariant-loop decreases-loop loop-holds c =
+    let s = c.before.before.before in
     let a = s.args in
-    let e : a.count - 0 ≡ a.count = omega arith in (
+    let e c a.count - 0 ≡ a.count = omega arith in (
       omega arith,
       omega arith,
       omega arith,
       refl,
-      ap (λ (n : ℕ). first_row (targets_rows a.p.mask a.p.area n a.t.now)) e ∙ s.requires.2,
-      ap (λ (n : ℕ). sets a.o.now 0 (record_bytes (target_records a.p.mask a.p.area n a.t.now))) e,
+      ap (λ (n c ℕ). first_row (targets_rows a.p.mask a.p.area n a.t.now)) e ∙ s.requires.2,
+      ap (λ (n c ℕ). sets a.o.now 0 (record_bytes (target_records a.p.mask a.p.area n a.t.now))) e,
     )
 
 pub slice_bounds-target_record-count : goal.slice_bounds-target_record-count
-slice_bounds-target_record-count c = omega (arith, within (goal.at.slice_bounds-target_record-count c).In-loop-i)
+slice_bounds-target_record-count c tie.Need-overflow-sub-target-record invariant-loop decreases-loop sub-target-record c = omega (arith, within c)
 
 pub slice_bounds-target_record-start : goal.slice_bounds-target_record-start
-slice_bounds-target_record-start c = omega (arith, within (goal.at.slice_bounds-target_record-start c).In-loop-i)
+slice_bounds-target_record-start c tie.Need-slice-bounds-target-record-start invariant-loop decreases-loop part-target-record-start c = omega (arith, within c)
 
 pub slice_bounds-target_record-count-in-loop-i : goal.slice_bounds-target_record-count-in-loop-i
-slice_bounds-target_record-count-in-loop-i c = omega (arith, within (goal.at.slice_bounds-target_record-count-in-loop-i c).In-loop-i)
+slice_bounds-target_record-count-in-loop-i c tie.Need-overflow-sub-target-record-2 invariant-loop decreases-loop sub-target-record-2 c = omega (arith, within c.before)
 
 pub slice_bounds-target_record-start-in-loop-i : goal.slice_bounds-target_record-start-in-loop-i
-slice_bounds-target_record-start-in-loop-i c = omega (arith, within (goal.at.slice_bounds-target_record-start-in-loop-i c).In-loop-i)
+slice_bounds-target_record-start-in-loop-i c tie.Need-slice-bounds-target-record-start-2 invariant-loop decreases-loop part-target-record-start-2 c = omega (arith, within c.before)
 
 pub target_record-requires : goal.target_record-requires
-target_record-requires c = c in
+target_record-requires c tie.Need-target-record-requires invariant-loop decreases-loop target-record-requires c =
+    let turn = c.before.before in
     let s = turn.before.before.before.before.before in
     let p = s.args.p in
     let l = turn.before.loop in
@@ -61,13 +63,14 @@ target_record-requires c = c in
     (rw (tail-is l.at s.args.t.now, length-drop l.at s.args.t.now) (omega (arith, s.requires.0.0)), search rules, s.requires.0.2, turn-placed p.mask p.area _ _ l.at s.args.t.now (left turn) l.invariant.4)
 
 pub overflow_add-at : goal.overflow_add-at
-overflow_add-at c = omega (arith, within (goal.at.overflow_add-at c).In-loop-i)
+overflow_add-at c tie.Need-overflow-add-at invariant-loop decreases-loop add_at c = omega (arith, within c.before.before.before.before.before.before)
 
 pub overflow_add-q : goal.overflow_add-q
-overflow_add-q c = omega (arith, within (goal.at.overflow_add-q c).In-loop-i)
+overflow_add-q c tie.Need-overflow-add-q invariant-loop decreases-loop add-q c = omega (arith, within c.before.before.before.before.before.before)
 
 pub loop-i-preserved : goal.loop-i-preserved
-loop-i-preserved c = c in
+loop-i-preserved c tie.Need-loop-preserved invariant-loop decreases-loop loop-again c =
+    let stored = c.before.before.before in
     let turn = stored.before.before.before in
     let s = turn.before.before.before.before.before in
     let t = s.args.t.now in
@@ -79,10 +82,11 @@ loop-i-preserved c = c in
       search rules,
       rows_next p.mask p.area _ _ l.at p.each t (left turn) s.requires.0.0 l.invariant.4,
       targets_next p.mask p.area _ _ l.at l.q p.each t l.o _ (left turn) s.requires.0.0
-          (part-laid (λ (x : List ℕ). record_bytes (target_record p.mask p.area x ∷ [])) t l.o l.at l.q stored.target-record.ensures) l.invariant.5,
+          (part-laid (λ (x c List ℕ). record_bytes (target_record p.mask p.area x ∷ [])) t l.o l.at l.q stored.target-record.ensures) l.invariant.5,
     )
 
 pub returns : goal.returns
-returns c = c.args in
-    let l = c.loop-i in
+returns c tie.Need-returns invariant-loop decreases-loop returns c =
+    let a = c.before.before.before.before.before.args in
+    let l = c.before.loop in
     targets-last a.p.mask a.p.area (a.count - l.i) l.at l.q a.t.now l.o _ (omega arith) l.invariant.5

@@ -5,6 +5,7 @@ use Rattle.modes.specs.Modes.{number_of, system_of}
 use Rattle.gmti.proofs.gmti_mode_system.Goals as goal
 
 pub returns : goal.returns
-returns c = c in
+returns c tie.Need-returns returns c =
+    let system = c.before in
     let found = system.before.mode-system.ensures.0 in
     (c.number_of_lem.ensures ∙ ap number_of found, system.system-of.ensures ∙ ap system_of found)

@@ -8,13 +8,15 @@ use Rattle.gmti_modes.proofs.Said.{worded, under}
 use Rattle.gmti_modes.proofs.put_edition.Goals as goal
 
 pub put_system-requires : goal.put_system-requires
-put_system-requires c = c in
+put_system-requires c tie.Need-put-system-requires put-system-requires c =
+    let system = c.before in
     let word = system.before.before.before.before in
     let start = word.before.before.before.before in
     (omega (arith, system.system-of.ensures, system.before.mode-system.ensures.1), omega (arith, word.put_word.auto, word.put_word.ensures, start.requires))
 
 pub returns : goal.returns
-returns c = c in
+returns c tie.Need-returns returns c =
+    let put = c.before.before in
     let system = put.before.before in
     let word = system.before.before.before.before in
     let start = word.before.before.before.before in

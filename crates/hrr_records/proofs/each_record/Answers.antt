@@ -19,7 +19,7 @@ abbrev start : In-loop-i → Start
 start c = c.before.before.before.before
 
 -- in a turn the scatterer lies within, and its record has room
-within : (c : In-loop-i → let a = (start c).args in let l = c.loop-i in
+within : (c : In-loop-i) → let a = (start c).args in let l = c.loop-i in
     (l.at + total (digits a.n) ≤ length a.t.now) × (l.q + record_length 12 ≤ length l.o)
 unfolding total
 within c =
@@ -29,12 +29,14 @@ within c =
     (omega (arith, l.invariant, s.pre), omega arith)
 
 pub loop-i-init : goal.loop-i-init
-loop-i-init c = c.args in
-    let e : a.count - 0 ≡ a.count = omega arith in
-    (omega arith, omega arith, omega arith, refl, ap (λ (n : ℕ). sets a.o.now 0 (record_bytes (scatterer_records (digits a.n) n a.t.now))) e)
+loop-i-init c tie.Need-loop-init invariant-loop decreases-loop loop-holds c =
+    let a = c.before.before.args in
+    let e c a.count - 0 ≡ a.count = omega arith in
+    (omega arith, omega arith, omega arith, refl, ap (λ (n c ℕ). sets a.o.now 0 (record_bytes (scatterer_records (digits a.n) n a.t.now))) e)
 
 pub scatterer_record-requires : goal.scatterer_record-requires
-scatterer_record-requires c = c in
+scatterer_record-requires c tie.Need-scatterer-record-requires invariant-loop decreases-loop scatterer-record-requires c =
+    let turn = c.before.before in
     let s = start turn in
     let l = turn.before.loop in
     let h = within turn in
@@ -42,7 +44,8 @@ scatterer_record-requires c = c in
 
 pub loop-i-preserved : goal.loop-i-preserved
 unfolding total
-loop-i-preserved c = c in
+loop-i-preserved c tie.Need-loop-preserved invariant-loop decreases-loop unfolding total loop-again c =
+    let stored = c.before.before in
     let turn = stored.before.before.before in
     let a = (start turn).args in
     let l = turn.before.loop in (
@@ -54,6 +57,7 @@ loop-i-preserved c = c in
     )
 
 pub returns : goal.returns
-returns c = c.args in
-    let l = c.loop-i in
+returns c tie.Need-returns invariant-loop decreases-loop returns c =
+    let a = c.before.before.before.before.args in
+    let l = c.before.loop in
     scatterers-last (digits a.n) (a.count - l.i) l.at l.q a.t.now l.o _ (omega arith) l.invariant.4

@@ -8,10 +8,11 @@ use Rattle.hrr_records.proofs.hrr_record.Goals as goal
 
 pub hrr_fields-requires : goal.hrr_fields-requires
 unfolding total
-hrr_fields-requires c = search rules
+hrr_fields-requires c tie.Need-hrr-fields-requires unfolding total hrr-fields-requires c = search rules
 
 pub returns : goal.returns
-returns c = c in
+returns c tie.Need-returns returns c =
+    let fields = c.before.before in
     let last = fields.before.before.before.before in
     let mask = last.before.before.before.before in
     let kind = mask.before.before.before.before in

@@ -14,26 +14,31 @@ use Rattle.hrr_records.proofs.scatterer_record.Goals as goal
 
 pub widen-requires : goal.widen-requires
 unfolding total
-widen-requires c = c in
+widen-requires c tie.Need-widen-requires unfolding total widen-requires c =
+    let s = c.before.before.before.before.before.before in
     (s.requires.0.0, omega (arith, s.requires))
 
 pub widen-requires-2 : goal.widen-requires-2
 unfolding total
-widen-requires-2 c = c in
+widen-requires-2 c tie.Need-widen-requires-2 unfolding total widen-requires-2 c =
+    let s = c.before.before.before.before.before.before.before in
     (s.requires.0.1, omega (arith, s.requires))
 
 pub widen-requires-3 : goal.widen-requires-3
 unfolding total
-widen-requires-3 c = c in
+widen-requires-3 c tie.Need-widen-requires-3 unfolding total widen-requires-3 c =
+    let s = c.before.before.before.before.before.before.before.before.before in
     (omega (arith, s.requires), omega (arith, s.requires))
 
 pub widen-requires-4 : goal.widen-requires-4
 unfolding total
-widen-requires-4 c = c in
+widen-requires-4 c tie.Need-widen-requires-4 unfolding total widen-requires-4 c =
+    let s = c.before.before.before.before.before.before.before.before.before.before in
     (omega (arith, s.requires), omega (arith, s.requires))
 
 pub returns : goal.returns
-returns c = c in
+returns c tie.Need-returns returns c =
+    let stored = c.before.before in
     let all = stored.before in
     let last = all.before.before in
     let doppler = last.before in

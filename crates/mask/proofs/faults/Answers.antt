@@ -10,7 +10,8 @@ use Rattle.mask.proofs.Sentence.{in_order}
 use Rattle.mask.proofs.faults.Goals as goal
 
 pub returns : goal.returns
-returns c = c in
+returns c tie.Need-returns returns c n lo hi =
+    let d28 = c.before.before in
     let classes = d28.before in
     let places = classes.before in
     let d10 = places.before in
@@ -37,7 +38,7 @@ returns c = c in
       d10-says m h n lo hi _ (d10.gaps5.ensures n),
       places-says m h n lo hi _ (places.gaps6.ensures n),
       classes-says m h n lo hi _ (classes.gaps7.ensures n),
-      c.in_version1-2.ensures,
+      c.before.in-version12.ensures,
       d28-says m h n lo hi _ (d28.gaps8.ensures n),
       c.doubled.ensures n lo hi,
       fields _ is_required required-word n lo hi,

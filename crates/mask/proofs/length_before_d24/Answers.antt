@@ -12,7 +12,8 @@ use Rattle.mask.proofs.length_before_d24.Goals as goal
 
 pub returns : goal.returns
 unfolding announced_length total
-returns c = c in
+returns c tie.Need-returns unfolding announced_length total returns c =
+    let s = c.before.before.before.before.before.before.before.before in
     let m = s.args.mask in
     omega (
       arith,

@@ -12,6 +12,7 @@ use Rattle.mask.proofs.length_from_d24.Goals as goal
 
 pub returns : goal.returns
 unfolding announced_length total
-returns c = c in
+returns c tie.Need-returns unfolding announced_length total returns c =
+    let s = c.before.before in
     let m = s.args.mask in
     omega (arith, from-28 m s.requires (widths 28 31), four-fields m 28 (widths 28 31) (lit≤ tt), announced-le m 24 (widths 24 31))

@@ -5,7 +5,8 @@ use Rattle.pack.proofs.d20_to_23.Goals as goal
 
 pub returns : goal.returns
 unfolding total
-returns c = c in
+returns c tie.Need-returns unfolding total returns c =
+    let d23 = c.before.before in
     let d22 = d23.before.before.before.before in
     let d21 = d22.before.before.before.before in
     let d20 = d21.before.before.before.before in

@@ -5,7 +5,8 @@ use Rattle.pack.proofs.d28_to_31.Goals as goal
 
 pub returns : goal.returns
 unfolding total
-returns c = c in
+returns c tie.Need-returns unfolding total returns c =
+    let d31 = c.before.before in
     let d30 = d31.before.before.before.before in
     let d29 = d30.before.before.before.before in
     let d28 = d29.before.before.before.before in

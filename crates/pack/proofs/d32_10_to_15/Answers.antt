@@ -5,7 +5,8 @@ use Rattle.pack.proofs.d32_10_to_15.Goals as goal
 
 pub returns : goal.returns
 unfolding total
-returns c = c in
+returns c tie.Need-returns unfolding total returns c =
+    let d32-15 = c.before.before in
     let d32-14 = d32-15.before.before.before.before in
     let d32-13 = d32-14.before.before.before.before in
     let d32-12 = d32-13.before.before.before.before in

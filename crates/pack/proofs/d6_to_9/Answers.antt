@@ -5,7 +5,8 @@ use Rattle.pack.proofs.d6_to_9.Goals as goal
 
 pub returns : goal.returns
 unfolding total
-returns c = c in
+returns c tie.Need-returns unfolding total returns c =
+    let d9 = c.before.before in
     let d8 = d9.before.before.before.before in
     let d7 = d8.before.before.before.before in
     let d6 = d7.before.before.before.before in

@@ -5,7 +5,8 @@ use Rattle.pack.proofs.dwell_fields.Goals as goal
 
 pub returns : goal.returns
 unfolding total
-returns c = c in
+returns c tie.Need-returns unfolding total returns c =
+    let d28-to-31 = c.before.before in
     let d24-to-27 = d28-to-31.before.before.before.before in
     let d20-to-23 = d24-to-27.before.before.before.before in
     let d15-to-19 = d20-to-23.before.before.before.before in

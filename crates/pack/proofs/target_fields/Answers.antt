@@ -5,7 +5,8 @@ use Rattle.pack.proofs.target_fields.Goals as goal
 
 pub returns : goal.returns
 unfolding total
-returns c = c in
+returns c tie.Need-returns unfolding total returns c =
+    let d32-16-to-18 = c.before.before in
     let d32-6-to-15 = d32-16-to-18.before.before.before.before in
     let d32-4-and-5 = d32-6-to-15.before.before.before.before in
     let d32-2-and-3 = d32-4-and-5.before.before.before.before in

@@ -6,7 +6,8 @@ use Rattle.pack_hrr.proofs.h14_to_19.Goals as goal
 
 pub returns : goal.returns
 unfolding total
-returns c = c in
+returns c tie.Need-returns unfolding total returns c =
+    let h19 = c.before.before in
     let h18 = h19.before.before.before.before in
     let h17 = h18.before.before.before.before in
     let h16 = h17.before.before.before.before in

@@ -6,7 +6,8 @@ use Rattle.pack_hrr.proofs.h20_to_25.Goals as goal
 
 pub returns : goal.returns
 unfolding total
-returns c = c in
+returns c tie.Need-returns unfolding total returns c =
+    let h25 = c.before.before in
     let h24 = h25.before.before.before.before in
     let h23 = h24.before.before.before.before in
     let h22 = h23.before.before.before.before in

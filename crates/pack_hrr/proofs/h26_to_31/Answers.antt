@@ -6,7 +6,8 @@ use Rattle.pack_hrr.proofs.h26_to_31.Goals as goal
 
 pub returns : goal.returns
 unfolding total
-returns c = c in
+returns c tie.Need-returns unfolding total returns c =
+    let h31 = c.before.before in
     let h30 = h31.before.before.before.before in
     let h29 = h30.before.before.before.before in
     let h28 = h29.before.before.before.before in

@@ -6,7 +6,8 @@ use Rattle.pack_hrr.proofs.h2_to_7.Goals as goal
 
 pub returns : goal.returns
 unfolding total
-returns c = c in
+returns c tie.Need-returns unfolding total returns c =
+    let h7 = c.before.before in
     let h6 = h7.before.before.before.before in
     let h5 = h6.before.before.before.before in
     let h4 = h5.before.before.before.before in

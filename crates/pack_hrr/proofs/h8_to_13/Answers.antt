@@ -6,7 +6,8 @@ use Rattle.pack_hrr.proofs.h8_to_13.Goals as goal
 
 pub returns : goal.returns
 unfolding total
-returns c = c in
+returns c tie.Need-returns unfolding total returns c =
+    let h13 = c.before.before in
     let h12 = h13.before.before.before.before in
     let h11 = h12.before.before.before.before in
     let h10 = h11.before.before.before.before in

@@ -5,5 +5,6 @@ use Rattle.pack_hrr.proofs.Narrowed.{last-is}
 use Rattle.pack_hrr.proofs.narrow.Goals as goal
 
 pub returns : goal.returns
-returns c = c in
+returns c tie.Need-returns returns c =
+    let s = c.before.before in
     (c.get.ensures.0, c.get.ensures.1 ∙ last-is s.args.w s.args.at s.args.x.now s.requires.0)

@@ -9,7 +9,8 @@ use Rattle.printing.proofs.answer_line.Goals as goal
 
 pub returns : goal.returns
 unfolding answer_line
-returns c = c in
+returns c tie.Need-returns unfolding answer_line returns c =
+    let put = c.before.before in
     let start = put.before.before.before in
     let e = put.put-answer.ensures in
     let h = laid-byte (answer_text start.args.a) start.args.o.now 0 10 (e.0.0, e.1) in

@@ -68,71 +68,82 @@ opaque c =
     longer-is c.args.r (b (goal.at.In_default c).Start) c.args.segment_type (omega (arith, c.requires.1, c.if-x-le-WINDOW.false)) c.in_default.rest.0.0.1 (other-than-hrr c.args.r c.args.segment_type c.in_default.rest.0.1) c.in_default.rest.1
 
 pub returns-then-x-le-WINDOW : goal.returns-then-x-le-WINDOW
-returns-then-x-le-WINDOW c = c in
+returns-then-x-le-WINDOW c tie.Need-returns returns c =
+    let laid = c.before.before.before.before in
     let test = laid.before.before in
     let s = test.before.before.before.before in
     filled-same (bytes_as s s.args.segment-type) (x s) s.args.window.now _ laid.segment-records.ensures.1 s.requires.1 (omega (arith, test.if1.true, s.requires.2)) c.is_front.ensures
 
 pub same_dwell-requires : goal.same_dwell-requires
 unfolding body_rows is_hrr
-same_dwell-requires c = c in
-    let e = c.in-2.is in
+same_dwell-requires c tie.Need-same-dwell-requires unfolding body_rows is_hrr same-dwell-requires c =
+    let s = c.before.before.before.before.before.before in
+    let e = c.before.match.keys1 in
     (rows s 2 e, long s 2 e, s.requires.2)
 
 pub same_hrr-requires : goal.same_hrr-requires
 unfolding body_rows is_hrr
-same_hrr-requires c = c in
+same_hrr-requires c tie.Need-same-hrr-requires unfolding body_rows is_hrr same-hrr-requires c =
+    let test = c.before.before in
     let s = test.before.before.before.before.before.before in
     let e = test.before.match.keys2 in
-    let read = sym test.is-hrr-read.ensures ∙ c.if-is_hrr_read.true in
+    let read = sym test.is-hrr-read.ensures ∙ c.before.if2.true in
     (rw read at (rows s 3 e), rw read at (long s 3 e), s.requires.2)
 
 pub same_opaque-requires : goal.same_opaque-requires
-same_opaque-requires c = c in
+same_opaque-requires c tie.Need-same-opaque-requires same-opaque-requires c =
+    let test = c.before.before in
     let s = test.before.before.before.before.before.before in
-    (s.requires.0.short, sym (length-opaque s.args.segment-type (b s)) ∙ long-opaque s (unread s test.before.match.keys2 test.is-hrr-read.ensures c.if-is_hrr_read.false), s.requires.2)
+    (s.requires.0.short, sym (length-opaque s.args.segment-type (b s)) ∙ long-opaque s (unread s test.before.match.keys2 test.is-hrr-read.ensures c.before.if2.false), s.requires.2)
 
 pub text_record-requires : goal.text_record-requires
 unfolding body_rows is_hrr
-text_record-requires c = c in
-    (text-length (b s) (rows s 6 c.in-6.is), s.requires.0.short, omega (arith, s.requires.2))
+text_record-requires c tie.Need-text-record-requires unfolding body_rows is_hrr text-record-requires c =
+    let s = c.before.before.before.before.before.before in
+    (text-length (b s) (rows s 6 c.before.match.keys3), s.requires.0.short, omega (arith, s.requires.2))
 
 pub slice_bounds-same_with_pieces-count : goal.slice_bounds-same_with_pieces-count
 unfolding body_rows is_hrr
-slice_bounds-same_with_pieces-count c = c in
+slice_bounds-same_with_pieces-count c tie.Need-overflow-sub-same-with-pieces unfolding body_rows is_hrr sub-same-with-pieces c =
+    let arm = c.before.before.before.before in
     let s = arm.before.before.before.before.before in
     text-length (b s) (rows s 6 arm.match.keys3)
 
 pub slice_bounds-same_with_pieces-start : goal.slice_bounds-same_with_pieces-start
-slice_bounds-same_with_pieces-start c = omega (arith, sub-same-with-pieces c)
+slice_bounds-same_with_pieces-start c tie.Need-slice-bounds-same-with-pieces-start part-same-with-pieces-start c = omega (arith, sub-same-with-pieces c)
 
 pub same_with_pieces-requires : goal.same_with_pieces-requires
-same_with_pieces-requires c = c in
+same_with_pieces-requires c tie.Need-same-with-pieces-requires same-with-pieces-requires c =
+    let record-laid = c.before.before.before.before in
     let arm = record-laid.before.before in
     let s = arm.before.before.before.before.before in
     let kept = record-laid.text-record.auto in
     (omega (arith, kept, s.requires.2), omega (arith, long s 6 arm.match.keys3, ap piece_count (pieces s)), omega (arith, kept, s.requires.2))
 
 pub same_opaque-requires-in_default : goal.same_opaque-requires-in_default
-same_opaque-requires-in_default c = c in
-    (s.requires.0.short, sym (length-opaque s.args.segment-type (b s)) ∙ long-opaque s (opaque (goal.at.same_opaque-requires-in_default c).In_default), s.requires.2)
+same_opaque-requires-in_default c tie.Need-same-opaque-requires-2 same-opaque-requires-2 c =
+    let s = c.before.before.before.before.before.before in
+    (s.requires.0.short, sym (length-opaque s.args.segment-type (b s)) ∙ long-opaque s (opaque c.before), s.requires.2)
 
 pub returns-in-2 : goal.returns-in-2
 unfolding segment_records
-returns-in-2 c = c in
+returns-in-2 c tie.Need-returns-2 unfolding segment_records returns-2 c =
+    let arm = c.before.before.before.before in
     let s = arm.before.before.before.before.before in
-    told s (bytes_as s 2) (bytes-are s 2 arm.match.keys1) c.same_dwell.ensures
+    told s (bytes_as s 2) (bytes-are s 2 arm.match.keys1) c.before.before.same-dwell.ensures
 
 pub returns-then-is_hrr_read : goal.returns-then-is_hrr_read
 unfolding segment_records
-returns-then-is_hrr_read c = c in
+returns-then-is_hrr_read c tie.Need-returns-3 unfolding segment_records returns-3 c =
+    let compared = c.before.before in
     let read = compared.before.before in
     let test = read.before in
     let s = test.before.before.before.before.before.before in
     told s _ (rw (sym test.is-hrr-read.ensures ∙ read.if2.true) at (bytes-are s 3 test.before.match.keys2)) compared.same-hrr.ensures
 
 pub returns-else-is_hrr_read : goal.returns-else-is_hrr_read
-returns-else-is_hrr_read c = c in
+returns-else-is_hrr_read c tie.Need-returns-4 returns-4 c =
+    let compared = c.before.before in
     let read = compared.before.before in
     let test = read.before in
     let s = test.before.before.before.before.before.before in
@@ -140,7 +151,8 @@ returns-else-is_hrr_read c = c in
 
 pub returns-in-6 : goal.returns-in-6
 unfolding segment_records text_records body_length is_hrr
-returns-in-6 c = c in
+returns-in-6 c tie.Need-returns-5 unfolding segment_records text_records body_length is_hrr returns-5 c =
+    let compared = c.before.before in
     let record-laid = compared.before.before.before.before.before in
     let arm = record-laid.before.before in
     let s = arm.before.before.before.before.before in
@@ -148,6 +160,7 @@ returns-in-6 c = c in
     (rw (tail-is 20 (b s)) (bytes-are s 6 arm.match.keys3))
 
 pub returns-in_default : goal.returns-in_default
-returns-in_default c = c in
+returns-in_default c tie.Need-returns-6 returns-6 c =
+    let compared = c.before.before in
     let s = compared.before.before.before.before.before.before.before in
     told s _ (opaque compared.before.before) compared.same-opaque2.ensures

@@ -9,12 +9,14 @@ use Rattle.readback.proofs.Fronts.{head-differs, head-same}
 use Rattle.readback.proofs.same_with_pieces.Goals as goal
 
 pub returns-then-not-is_front : goal.returns-then-not-is_front
-returns-then-not-is_front c = c in
+returns-then-not-is_front c tie.Need-returns returns c =
+    let s = c.before.before.before.before.before.before.before in
     let w = s.args.window.now in
-    head-differs _ _ s.args.x.now w s.args.head refl (length-take-le _ w s.requires.0) (omega (arith, s.requires.1)) c.is_front.ensures (not-true _ c.if-not-is_front.true)
+    head-differs _ _ s.args.x.now w s.args.head refl (length-take-le _ w s.requires.0) (omega (arith, s.requires.1)) c.before.is_front.ensures (not-true _ c.if1.true)
 
 pub returns : goal.returns
-returns c = c in
+returns c tie.Need-returns-2 returns-2 c =
+    let pieces = c.before.before in
     let test = pieces.before.before.before in
     let s = test.before.before.before.before.before.before.before in
     let w = s.args.window.now in

@@ -26,14 +26,14 @@ past-6 c = rw (le-ltb (length c.args.l.now) 5 c.if-l-lt5.false)
 -- nor does row 7
 past-7 : (c : Else-not-is_known_type) → from 0 c ≡ from 2 c
 unfolding first_row segment_rows type_at
-past-7 c = past-6 (goal.at.Else-not-is_known_type c).Else-l-lt5 ∙ rw (sym c.is_known_type.ensures ∙ not-false _ c.if-not-is_known_type.false)
+past-7 c = past-6 (goal.at.Else-not-is_known_type c).Else-l-lt5 ∙ rw (sym c.is_known_type.ensures ∙ not-false _ c.if-not-is_known_type.false-raw)
 
 -- nor row 8
 past-8 : (c : Else-l-size) → from 0 c ≡ from 3 c
 unfolding first_row segment_rows
 past-8 c =
     let size = c.size_at-size in
-    past-7 (goal.at.Else-l-size c).Else-not-is_known_type ∙ rw (sym size.ensures, le-ltb size.result 5 c.if-size-lt5.false, c.if-l-size.false)
+    past-7 (goal.at.Else-l-size c).Else-not-is_known_type ∙ rw (sym size.ensures, le-ltb size.result 5 c.if-size-lt5.false, c.if-l-size.false-raw)
 
 -- nor row 15
 past-15 : (c : Joined-else-is_older) → from 0 c ≡ from 4 c
@@ -48,16 +48,18 @@ past-15 c =
 
 pub returns-then-l-lt5 : goal.returns-then-l-lt5
 unfolding first_row segment_rows
-returns-then-l-lt5 c = rw (lt-ltb (length c.args.l.now) 5 c.if-l-lt5.true)
+returns-then-l-lt5 c tie.Need-returns unfolding first_row segment_rows returns c = rw (lt-ltb (length c.before.before.args.l.now) 5 c.if1.true)
 
 pub returns-then-not-is_known_type : goal.returns-then-not-is_known_type
 unfolding first_row segment_rows type_at
-returns-then-not-is_known_type c = c in
-    sym (past-6 known.before.before ∙ rw (sym known.is-known-type.ensures ∙ not-true _ c.if-not-is_known_type.true))
+returns-then-not-is_known_type c tie.Need-returns-2 unfolding first_row segment_rows type_at returns-2 c =
+    let known = c.before in
+    sym (past-6 known.before.before ∙ rw (sym known.is-known-type.ensures ∙ not-true _ c.if2.true))
 
 pub returns-then-size-lt5 : goal.returns-then-size-lt5
 unfolding first_row segment_rows
-returns-then-size-lt5 c = c in
+returns-then-size-lt5 c tie.Need-returns-3 unfolding first_row segment_rows returns-3 c =
+    let size = c.before in
     let z = size.size-at.result in
     sym
     (past-7 size.before
@@ -65,17 +67,19 @@ returns-then-size-lt5 c = c in
     (⊎_elim
     (λ w. rw (lt-ltb z 5 w.taken))
     (λ w. rw (le-ltb z 5 w.0.left, w.1.taken))
-    c.then-size-lt5.branch))
+    c.if3.branch))
 
 pub returns-then-segment_type-eq3 : goal.returns-then-segment_type-eq3
 unfolding first_row segment_rows type_at
-returns-then-segment_type-eq3 c = c in
-    sym (past-8 older.before ∙ rw (sym older.is-older.ensures ∙ c.if-is_older.true, c.if-segment_type-eq3.true))
+returns-then-segment_type-eq3 c tie.Need-returns-4 unfolding first_row segment_rows type_at returns-4 c =
+    let older = c.before.before in
+    sym (past-8 older.before ∙ rw (sym older.is-older.ensures ∙ c.before.if5.true, c.if6.true))
 
 pub returns : goal.returns
 unfolding segment_rows type_at
-returns c = c in
+returns c tie.Need-returns-5 unfolding segment_rows type_at returns-5 c =
+    let size = c.before.before.before.before.before.before in
     let s = size.before.before.before.before.before.before in
-    let rows : List ℕ → Check = λ b. first_row (body_rows s.args.r (type_at s.args.l.now) b) in
+    let rows c List ℕ → Check = λ b. first_row (body_rows s.args.r (type_at s.args.l.now) b) in
     let body = body-part s.args.l.now size.size-at.result size.size-at.ensures (omega arith) in
-    sym (past-15 (goal.at.returns c).Joined-else-is_older ∙ ap rows (sym body) ∙ sym c.body_check.ensures)
+    sym (past-15 c.before.before ∙ ap rows (sym body) ∙ sym c.body-check.ensures)

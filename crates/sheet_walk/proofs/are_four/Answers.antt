@@ -19,23 +19,25 @@ use Rattle.sheet_walk.proofs.are_four.Goals.{Joined-x-eq-KIND, Joined-x-eq-KIND-
 one : (x : List ℕ) → 4 * record_length 12 ≤ length x → Tells (eqb (get_or x 0 0) 12) 12 1 x
 one x h = one_told 12 x 0 0 {r = true} refl (omega arith) (λ _. none 12 x, λ _. refl) (inl (refl, refl))
 
-two : (c : Joined-x-eq-KIND) → Tells c.if-x-eq-KIND.if2 12 2 c.args.x.now
+two : (c : Joined-x-eq-KIND) → Tells c.if-x-eq-KIND.value 12 2 c.args.x.now
 two c =
     let x = c.args.x.now in
     let long = c.requires in
     one_told 12 x 1 (record_length 12) refl (omega (arith, long)) (one x long)
     (⊎_elim (λ w. inl (eq-eqb (get_or x 0 0) 12 w.0.taken, w.2)) (λ w. inr (ne_eqb (get_or x 0 0) 12 w.0.left, w.1)) c.if-x-eq-KIND.branch)
 
-three : (c : Joined-x-eq-KIND-2) → Tells c.if-x-eq-KIND-2.if3 12 3 c.args.x.now
+three : (c : Joined-x-eq-KIND-2) → Tells c.if-x-eq-KIND-2.value 12 3 c.args.x.now
 three c =
     let x = c.args.x.now in
     one_told 12 x 2 (2 * record_length 12) refl (omega (arith, c.requires)) (two (goal.at.Joined-x-eq-KIND-2 c).Joined-x-eq-KIND)
     (⊎_elim (λ w. inl (w.0.taken, w.2)) (λ w. inr (w.0.left, w.1)) c.if-x-eq-KIND-2.branch)
 
 pub returns-then-x-eq-KIND-3 : goal.returns-then-x-eq-KIND-3
-returns-then-x-eq-KIND-3 c = c.args.x.now in
-    one_told 12 x 3 (3 * record_length 12) refl (omega (arith, c.requires)) (three (goal.at.returns-then-x-eq-KIND-3 c).Joined-x-eq-KIND-2) (inl (c.if-x-eq-KIND-3.true, refl))
+returns-then-x-eq-KIND-3 c tie.Need-returns returns c =
+    let x = c.before.before.before.before.before.args.x.now in
+    one_told 12 x 3 (3 * record_length 12) refl (omega (arith, c.before.before.before.before.before.requires)) (three c.before.before) (inl (c.before.if3.true, refl))
 
 pub returns-else-x-eq-KIND-3 : goal.returns-else-x-eq-KIND-3
-returns-else-x-eq-KIND-3 c = c.args.x.now in
-    one_told 12 x 3 (3 * record_length 12) refl (omega (arith, c.requires)) (three (goal.at.returns-else-x-eq-KIND-3 c).Joined-x-eq-KIND-2) (inr (c.if-x-eq-KIND-3.false, refl))
+returns-else-x-eq-KIND-3 c tie.Need-returns-2 returns-2 c =
+    let x = c.before.before.before.before.args.x.now in
+    one_told 12 x 3 (3 * record_length 12) refl (omega (arith, c.before.before.before.before.requires)) (three c.before) (inr (c.if3.false, refl))

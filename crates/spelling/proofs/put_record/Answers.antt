@@ -11,11 +11,12 @@ use Rattle.spelling.proofs.Stored.{leader-spelt, target-spelt, target-long, targ
 use Rattle.spelling.proofs.put_record.Goals as goal
 
 pub get_u64-requires : goal.get_u64-requires
-get_u64-requires c = c.requires.0.3 c.if-kind-eq-KIND.true
+get_u64-requires c tie.Need-get-u64-requires get-u64-requires c = c.before.before.before.before.requires.0.3 c.if1.true
 
 pub target_fields-requires : goal.target_fields-requires
 unfolding total
-target_fields-requires c = c in
+target_fields-requires c tie.Need-target-fields-requires unfolding total target-fields-requires c =
+    let mask = c.before in
     let s = mask.before.before.before.before.before in
     let a = s.args in
     let e = mask.before.if1.true in
@@ -25,7 +26,8 @@ target_fields-requires c = c in
     }
 
 pub returns-then-kind-eq-KIND : goal.returns-then-kind-eq-KIND
-returns-then-kind-eq-KIND c = c in
+returns-then-kind-eq-KIND c tie.Need-returns returns c =
+    let put = c.before.before in
     let mask = put.before.before in
     let s = mask.before.before.before.before.before in
     let a = s.args in
@@ -35,14 +37,16 @@ returns-then-kind-eq-KIND c = c in
     )
 
 pub put_piece-requires : goal.put_piece-requires
-put_piece-requires c = c in
+put_piece-requires c tie.Need-put-piece-requires put-piece-requires c =
+    let s = c.before.before.before.before.before.before in
     let a = s.args in
-    let e = c.if-kind-eq-KIND-2.true in
+    let e = c.before.if2.true in
     let n = s.requires.0.4 e in
     (piece-long a.leader.now a.kind a.b.now s.requires.0.0 e, n, omega (arith, piece-length a.leader.now a.kind a.b.now s.requires.0.0 e n, s.requires.1))
 
 pub returns-then-kind-eq-KIND-2 : goal.returns-then-kind-eq-KIND-2
-returns-then-kind-eq-KIND-2 c = c in
+returns-then-kind-eq-KIND-2 c tie.Need-returns-2 returns-2 c =
+    let put = c.before.before in
     let s = put.before.before.before.before.before.before.before in
     let a = s.args in
     let e = put.before.before.if2.true in (
@@ -51,7 +55,8 @@ returns-then-kind-eq-KIND-2 c = c in
     )
 
 pub put_leader-requires : goal.put_leader-requires
-put_leader-requires c = c in
+put_leader-requires c tie.Need-put-leader-requires put-leader-requires c =
+    let other = c.before in
     let s = other.before.before.before.before.before in
     let a = s.args in
     let t = other.before.if1.false in
@@ -60,7 +65,8 @@ put_leader-requires c = c in
     ((s.requires.0.0, s.requires.0.1, size), omega (arith, ap length (leader-spelt a.leader.now a.kind a.b.now t p s.requires.0.5), s.requires.1))
 
 pub returns : goal.returns
-returns c = c in
+returns c tie.Need-returns-3 returns-3 c =
+    let put = c.before.before in
     let other = put.before.before in
     let s = other.before.before.before.before.before in
     let a = s.args in

@@ -6,7 +6,8 @@ use Rattle.unpack_dwell.proofs.d10_to_14.Goals as goal
 
 pub returns : goal.returns
 unfolding total
-returns c = c in
+returns c tie.Need-returns unfolding total returns c =
+    let d14 = c.before.before in
     let d13 = d14.before.before.before.before in
     let d12 = d13.before.before.before.before in
     let d11 = d12.before.before.before.before in

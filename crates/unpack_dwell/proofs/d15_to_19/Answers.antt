@@ -6,7 +6,8 @@ use Rattle.unpack_dwell.proofs.d15_to_19.Goals as goal
 
 pub returns : goal.returns
 unfolding total
-returns c = c in
+returns c tie.Need-returns unfolding total returns c =
+    let d19 = c.before.before in
     let d18 = d19.before.before.before.before in
     let d17 = d18.before.before.before.before in
     let d16 = d17.before.before.before.before in

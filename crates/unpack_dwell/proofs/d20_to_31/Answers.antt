@@ -6,7 +6,8 @@ use Rattle.unpack_dwell.proofs.d20_to_31.Goals as goal
 
 pub returns : goal.returns
 unfolding total
-returns c = c in
+returns c tie.Need-returns unfolding total returns c =
+    let d28-to-31 = c.before.before in
     let d24-to-27 = d28-to-31.before.before.before.before in
     let d20-to-23 = d24-to-27.before.before.before.before in
     onward (onward d20-to-23.d20-to-23.ensures d24-to-27.d24-to-27.ensures) d28-to-31.d28-to-31.ensures

@@ -6,6 +6,7 @@ use Rattle.unpack_dwell.proofs.dwell_fields.Goals as goal
 
 pub returns : goal.returns
 unfolding total
-returns c = c in
+returns c tie.Need-returns unfolding total returns c =
+    let d20-to-31 = c.before.before in
     let d2-to-19 = d20-to-31.before.before.before.before in
     onward d2-to-19.d2-to-19.ensures d20-to-31.d20-to-31.ensures

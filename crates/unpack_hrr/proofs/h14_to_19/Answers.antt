@@ -19,15 +19,16 @@ start c =
 
 pub overflow_add-q-5 : goal.overflow_add-q-5
 unfolding total
-overflow_add-q-5 c = start c in omega (arith, s.good, s.pre)
+overflow_add-q-5 c tie.Need-overflow-add-field2 unfolding total add-field2 c = let s = start c in omega (arith, s.good, s.pre)
 
 pub field2-requires : goal.field2-requires
 unfolding announced_length total
-field2-requires c = (start c).requires in search rules
+field2-requires c tie.Need-field2-requires unfolding announced_length total field2-requires c = let pre = (start c).requires in search rules
 
 pub returns : goal.returns
 unfolding total
-returns c = c in
+returns c tie.Need-returns unfolding total returns c =
+    let h19 = c.before.before in
     let h18 = h19.before.before.before.before in
     let h17 = h18.before.before.before.before in
     let h16 = h17.before.before.before.before in

@@ -19,15 +19,16 @@ start c =
 
 pub overflow_add-q-5 : goal.overflow_add-q-5
 unfolding total
-overflow_add-q-5 c = start c in omega (arith, s.good, s.pre)
+overflow_add-q-5 c tie.Need-overflow-add-field1-3 unfolding total add-field1-3 c = let s = start c in omega (arith, s.good, s.pre)
 
 pub field1-requires : goal.field1-requires
 unfolding announced_length total
-field1-requires c = (start c).requires in search rules
+field1-requires c tie.Need-field1-requires-4 unfolding announced_length total field1-requires-4 c = let pre = (start c).requires in search rules
 
 pub returns : goal.returns
 unfolding total
-returns c = c in
+returns c tie.Need-returns unfolding total returns c =
+    let h25 = c.before.before in
     let h24 = h25.before.before.before.before in
     let h23 = h24.before.before.before.before in
     let h22 = h23.before.before.before.before in

@@ -19,15 +19,16 @@ start c =
 
 pub overflow_add-q-5 : goal.overflow_add-q-5
 unfolding total
-overflow_add-q-5 c = start c in omega (arith, s.good, s.pre)
+overflow_add-q-5 c tie.Need-overflow-add-field4 unfolding total add-field4 c = let s = start c in omega (arith, s.good, s.pre)
 
 pub field4-requires : goal.field4-requires
 unfolding announced_length total
-field4-requires c = (start c).requires in search rules
+field4-requires c tie.Need-field4-requires unfolding announced_length total field4-requires c = let pre = (start c).requires in search rules
 
 pub returns : goal.returns
 unfolding total
-returns c = c in
+returns c tie.Need-returns unfolding total returns c =
+    let h13 = c.before.before in
     let h12 = h13.before.before.before.before in
     let h11 = h12.before.before.before.before in
     let h10 = h11.before.before.before.before in

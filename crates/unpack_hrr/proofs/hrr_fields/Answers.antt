@@ -6,7 +6,8 @@ use Rattle.unpack_hrr.proofs.hrr_fields.Goals as goal
 
 pub returns : goal.returns
 unfolding total
-returns c = c in
+returns c tie.Need-returns unfolding total returns c =
+    let h26-to-31 = c.before.before in
     let h20-to-25 = h26-to-31.before.before.before.before in
     let h14-to-19 = h20-to-25.before.before.before.before in
     let h8-to-13 = h14-to-19.before.before.before.before in

@@ -10,14 +10,16 @@ use Rattle.unpack_target.proofs.d32_11_to_15.Goals as goal
 -- each field of two bytes goes onto zeros: those of the start, of which the fields before it leave the ones behind them
 pub field2_onto_zeros-b-requires : goal.field2_onto_zeros-b-requires
 unfolding announced_length total
-field2_onto_zeros-b-requires c = c in
+field2_onto_zeros-b-requires c tie.Need-field2-onto-zeros-requires unfolding announced_length total field2-onto-zeros-requires c =
+    let d32-11 = c.before.before.before in
     let start = d32-11.before.before.before.before in
     let zeros = clear_behind 2 (omega arith) start.requires.1 d32-11.field1.ensures in
     search rules
 
 pub field2_onto_zeros-c-requires : goal.field2_onto_zeros-c-requires
 unfolding announced_length total
-field2_onto_zeros-c-requires c = c in
+field2_onto_zeros-c-requires c tie.Need-field2-onto-zeros-requires-2 unfolding announced_length total field2-onto-zeros-requires-2 c =
+    let d32-12 = c.before.before.before in
     let d32-11 = d32-12.before.before.before.before in
     let start = d32-11.before.before.before.before in
     let zeros = clear_behind 2 (omega arith) start.requires.1 (onward d32-11.field1.ensures d32-12.field2-onto-zeros.ensures) in
@@ -25,7 +27,8 @@ field2_onto_zeros-c-requires c = c in
 
 pub field2_onto_zeros-requires : goal.field2_onto_zeros-requires
 unfolding announced_length total
-field2_onto_zeros-requires c = c in
+field2_onto_zeros-requires c tie.Need-field2-onto-zeros-requires-3 unfolding announced_length total field2-onto-zeros-requires-3 c =
+    let d32-14 = c.before.before.before in
     let d32-13 = d32-14.before.before.before.before in
     let d32-12 = d32-13.before.before.before.before in
     let d32-11 = d32-12.before.before.before.before in
@@ -36,7 +39,8 @@ field2_onto_zeros-requires c = c in
 
 pub returns : goal.returns
 unfolding total
-returns c = c in
+returns c tie.Need-returns unfolding total returns c =
+    let d32-15 = c.before.before in
     let d32-14 = d32-15.before.before.before.before in
     let d32-13 = d32-14.before.before.before.before in
     let d32-12 = d32-13.before.before.before.before in

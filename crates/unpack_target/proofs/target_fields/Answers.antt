@@ -6,7 +6,8 @@ use Rattle.unpack_target.proofs.target_fields.Goals as goal
 
 pub returns : goal.returns
 unfolding total
-returns c = c in
+returns c tie.Need-returns unfolding total returns c =
+    let d32-18 = c.before.before in
     let behind = d32-18.before.before.before.before in
     let deltas = behind.before.before.before.before in
     let places = deltas.before.before.before.before in
