@@ -331,7 +331,7 @@ def turned(crate, function, names, text):
             for i in goal_of[name]:
                 old, new = needs[i]
                 at = names["asked_at"][i][0]
-                m = re.search(r"(?m)^" + re.escape(name) + r"((?:\s+[^\s=(){}]+)*?)\s*=(?=\s)(.*)$", code, re.S)
+                m = re.search(r"(?m)^" + re.escape(name) + r"((?:[ ]+[^\s=(){}:]+)*?)[ ]*=(?=\s)(.*)$", code, re.S)
                 if not m:
                     t.say(f"{name}: no equation")
                     continue

@@ -27,10 +27,10 @@ too_many n h = rw (lt-leb n 65536 h, neither-way (leb 32 n))
     neither-way false = refl
 
 pub returns-then-n-lt-LEN : goal.returns-then-n-lt-LEN
-returns-then-n-lt-LEN c tie.Need-returns returns c = promised _ 0 (too_few _ c.if1.true)
+returns-then-n-lt-LEN c = promised _ 0 (too_few _ c.if-n-lt-LEN.true)
 
 pub returns-then-n-gt-LONGEST_PACKET : goal.returns-then-n-gt-LONGEST_PACKET
-returns-then-n-gt-LONGEST_PACKET c tie.Need-returns-2 returns-2 c = promised _ 0 (too_many _ c.if2.true)
+returns-then-n-gt-LONGEST_PACKET c = promised _ 0 (too_many _ c.if-n-gt-LONGEST_PACKET.true)
 
 pub returns : goal.returns
-returns c tie.Need-returns-3 returns-3 c = promised _ _ (bound-is _ c.before.if1.false c.if2.false)
+returns c = promised _ _ (bound-is _ c.if-n-lt-LEN.false c.if-n-gt-LONGEST_PACKET.false)

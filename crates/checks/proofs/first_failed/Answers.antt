@@ -4,19 +4,19 @@ use borrow.Author.Tests.{not-true, not-false}
 use Rattle.checks.proofs.first_failed.Goals as goal
 
 pub returns-then-not-a : goal.returns-then-not-a
-returns-then-not-a c tie.Need-returns returns c = let a = c.before.args.a in rw (not-true a c.if1.true)
+returns-then-not-a c = let a = c.args.a in rw (not-true a c.if-not-a.true-raw)
 
 pub returns-then-not-b : goal.returns-then-not-b
-returns-then-not-b c tie.Need-returns-2 returns-2 c =
-    let start = c.before.before.args in
-    rw (not-false start.a c.before.if1.false, not-true start.b c.if2.true)
+returns-then-not-b c =
+    let start = c.args in
+    rw (not-false start.a c.if-not-a.false-raw, not-true start.b c.if-not-b.true-raw)
 
 pub returns-then-not-c : goal.returns-then-not-c
-returns-then-not-c c tie.Need-returns-3 returns-3 c =
-    let start = c.before.before.before.args in
-    rw (not-false start.a c.before.before.if1.false, not-false start.b c.before.if2.false, not-true start.c c.if3.true)
+returns-then-not-c c =
+    let start = c.args in
+    rw (not-false start.a c.if-not-a.false-raw, not-false start.b c.if-not-b.false-raw, not-true start.c c.if-not-c.true-raw)
 
 pub returns : goal.returns
-returns c tie.Need-returns-4 returns-4 c =
-    let start = c.before.before.before.args in
-    rw (not-false start.a c.before.before.if1.false, not-false start.b c.before.if2.false, not-false start.c c.if3.false)
+returns c =
+    let start = c.args in
+    rw (not-false start.a c.if-not-a.false-raw, not-false start.b c.if-not-b.false-raw, not-false start.c c.if-not-c.false-raw)

@@ -7,8 +7,5 @@ use Rattle.checks.proofs.free_text.Goals as goal
 
 pub returns : goal.returns
 unfolding text_fault field total
-returns c tie.Need-returns unfolding text_fault field total returns c =
-    let third = c.before in
-    let second = third.before.before in
-    let first = second.before.before in
-    first-is 1 2 3 first.is-line.ensures second.is-line2.ensures third.is-text.ensures c.first-failed.ensures
+returns c =
+    first-is 1 2 3 c.is_line-f1.ensures c.is_line-f2.ensures c.is_text-f3.ensures c.first_failed.ensures

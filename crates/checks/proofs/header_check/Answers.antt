@@ -41,29 +41,29 @@ past-4 c =
 
 pub returns-then-not-is_edition : goal.returns-then-not-is_edition
 unfolding first_row header_rows
-returns-then-not-is_edition c tie.Need-returns unfolding first_row header_rows returns c = rw (sym c.before.is-edition.ensures ∙ not-true _ c.if1.true)
+returns-then-not-is_edition c = rw (sym c.is_edition.ensures ∙ not-true _ c.if-not-is_edition.true-raw)
 
 pub returns-then-l-lt32 : goal.returns-then-l-lt32
 unfolding first_row header_rows
-returns-then-l-lt32 c tie.Need-returns-2 unfolding first_row header_rows returns-2 c =
-    let n = length c.before.before.before.before.args.l.now in
+returns-then-l-lt32 c =
+    let n = length c.args.l.now in
     sym
-    (past-1 c.before
+    (past-1 (goal.at.returns-then-l-lt32 c).Else-not-is_edition
     ∙ ⊎_elim
     (λ w. rw (lt-ltb n 32 w.taken))
     (λ w. rw (le-ltb n 32 w.0.left, w.1.taken))
-    c.if2.branch)
+    c.then-l-lt32.branch)
 
 pub returns-then-not-is_version : goal.returns-then-not-is_version
 unfolding first_row header_rows is_p1
-returns-then-not-is_version c tie.Need-returns-3 unfolding first_row header_rows is_p1 returns-3 c = sym (past-2 c.before.before.before.before ∙ rw (sym c.before.is-version.ensures ∙ not-true _ c.if4.true))
+returns-then-not-is_version c = sym (past-2 (goal.at.returns-then-not-is_version c).Else-l-gt65536 ∙ rw (sym c.is_version.ensures ∙ not-true _ c.if-not-is_version.true-raw))
 
 pub returns-then-get_u32-l : goal.returns-then-get_u32-l
 unfolding first_row header_rows value total
-returns-then-get_u32-l c tie.Need-returns-4 unfolding first_row header_rows value total returns-4 c =
-    let l = c.before.before.before.before.before.before.before.before.before.before.before.args.l.now in
-    sym (past-3 c.before.before ∙ rw (ne_eqb (P 2 l) (length l) (λ e. c.if5.true (c.before.get-u32.ensures ∙ e))))
+returns-then-get_u32-l c =
+    let l = c.args.l.now in
+    sym (past-3 (goal.at.returns-then-get_u32-l c).Else-not-is_version ∙ rw (ne_eqb (P 2 l) (length l) (λ e. c.if-get_u32-l.true (c.get_u32.ensures ∙ e))))
 
 pub returns : goal.returns
 unfolding header_rows
-returns c tie.Need-returns-5 unfolding header_rows returns-5 c = sym (past-4 c.before.before ∙ rw (sym c.before.header-text.ensures) (sym c.naming-row.ensures))
+returns c = sym (past-4 (goal.at.returns c).Else-get_u32-l ∙ rw (sym c.header_text.ensures) (sym c.naming_row.ensures))

@@ -17,10 +17,10 @@ first-is c =
     c.if-first-eq49.branch
 
 pub returns-then-second-ge48 : goal.returns-then-second-ge48
-returns-then-second-ge48 c tie.Need-returns returns c = rw (sym (first-is c.before.before) ∙ c.before.if2.true, le-leb 0x30 c.before.before.before.args.second c.if3.true)
+returns-then-second-ge48 c = rw (sym (first-is (goal.at.returns-then-second-ge48 c).Joined-first-eq49) ∙ c.if-first-eq51.true-raw, le-leb 0x30 c.args.second c.if-second-ge48.true)
 
 pub returns-else-second-ge48 : goal.returns-else-second-ge48
-returns-else-second-ge48 c tie.Need-returns-2 returns-2 c = rw (sym (first-is c.before.before) ∙ c.before.if2.true, lt-leb 0x30 c.before.before.before.args.second c.if3.false)
+returns-else-second-ge48 c = rw (sym (first-is (goal.at.returns-else-second-ge48 c).Joined-first-eq49) ∙ c.if-first-eq51.true-raw, lt-leb 0x30 c.args.second c.if-second-ge48.false)
 
 pub returns-else-first-eq51 : goal.returns-else-first-eq51
-returns-else-first-eq51 c tie.Need-returns-3 returns-3 c = rw (sym (first-is c.before) ∙ c.if2.false) c.if2.false
+returns-else-first-eq51 c = rw (sym (first-is (goal.at.returns-else-first-eq51 c).Joined-first-eq49) ∙ c.if-first-eq51.false-raw) c.if-first-eq51.false-raw

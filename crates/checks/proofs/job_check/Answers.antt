@@ -31,26 +31,26 @@ past-10 c = past-9 (goal.at.Else-not-is_line c).Else-b-ne68 ∙ rw (sym c.is_lin
 
 pub returns-then-b-ne68 : goal.returns-then-b-ne68
 unfolding first_row job_rows
-returns-then-b-ne68 c tie.Need-returns unfolding first_row job_rows returns c = rw (ne_eqb (s2 c.before.before.args.b.now) 73 (λ e. c.if1.true (omega arith)))
+returns-then-b-ne68 c = rw (ne_eqb (s2 c.args.b.now) 73 (λ e. c.if-b-ne68.true (omega arith)))
 
 pub returns-then-not-is_line : goal.returns-then-not-is_line
 unfolding first_row job_rows text_fault field total
-returns-then-not-is_line c tie.Need-returns-2 unfolding first_row job_rows text_fault field total returns-2 c = sym (past-9 c.before.before.before ∙ rw (sym c.before.is-line.ensures ∙ not-true _ c.if2.true))
+returns-then-not-is_line c = sym (past-9 (goal.at.returns-then-not-is_line c).Else-b-ne68 ∙ rw (sym c.is_line.ensures ∙ not-true _ c.if-not-is_line.true-raw))
 
 pub returns-then-is_new_mode : goal.returns-then-is_new_mode
 unfolding first_row job_rows value total
-returns-then-is_new_mode c tie.Need-returns-3 unfolding first_row job_rows value total returns-3 c =
+returns-then-is_new_mode c =
     sym
-    (past-10 c.before.before.before.before.before
-    ∙ rw (sym c.before.before.before.before.is-older.ensures ∙ c.before.before.before.if3.true, one_byte 45 c.before.before.before.before.before.before.before.before.before.before.args.b.now, sym c.before.is-new-mode.ensures ∙ c.if4.true))
+    (past-10 (goal.at.returns-then-is_new_mode c).Else-not-is_line
+    ∙ rw (sym c.is_older.ensures ∙ c.if-is_older.true, one_byte 45 c.args.b.now, sym c.is_new_mode.ensures ∙ c.if-is_new_mode.true))
 
 pub returns : goal.returns
 unfolding first_row job_rows value total
-returns c tie.Need-returns-4 unfolding first_row job_rows value total returns-4 c =
-    let older = sym c.before.is-older.ensures in
+returns c =
+    let older = sym c.is_older.ensures in
     sym
-    (past-10 c.before.before
+    (past-10 (goal.at.returns c).Else-not-is_line
     ∙ ⊎_elim
-    (λ w. rw (older ∙ w.0.taken, one_byte 45 c.before.before.before.before.before.before.before.args.b.now, sym w.2.ensures ∙ w.3.left))
+    (λ w. rw (older ∙ w.0.taken, one_byte 45 c.args.b.now, sym w.2.ensures ∙ w.3.left))
     (λ w. rw (older ∙ w.left))
-    c.if3.branch)
+    c.else-is_older.branch)

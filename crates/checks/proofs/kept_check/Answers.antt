@@ -9,8 +9,8 @@ use Rattle.checks.proofs.kept_check.Goals as goal
 
 pub returns-then-b-n : goal.returns-then-b-n
 unfolding first_row kept_rows
-returns-then-b-n c tie.Need-returns unfolding first_row kept_rows returns c = rw (ne_eqb (s2 c.before.args.b.now) (5 + c.before.args.n) (λ e. c.if1.true (omega arith)))
+returns-then-b-n c = rw (ne_eqb (s2 c.args.b.now) (5 + c.args.n) (λ e. c.if-b-n.true (omega arith)))
 
 pub returns : goal.returns
 unfolding first_row kept_rows
-returns c tie.Need-returns-2 unfolding first_row kept_rows returns-2 c = rw (eq-eqb (s2 c.before.args.b.now) (5 + c.before.args.n) (omega arith))
+returns c = rw (eq-eqb (s2 c.args.b.now) (5 + c.args.n) (omega arith))

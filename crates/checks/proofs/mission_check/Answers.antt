@@ -37,32 +37,32 @@ past-month c =
 
 pub returns-then-b-ne39 : goal.returns-then-b-ne39
 unfolding first_row mission_rows
-returns-then-b-ne39 c tie.Need-returns unfolding first_row mission_rows returns c = rw (ne_eqb (s2 c.before.before.args.b.now) 44 (λ e. c.if1.true (omega arith)))
+returns-then-b-ne39 c = rw (ne_eqb (s2 c.args.b.now) 44 (λ e. c.if-b-ne39.true (omega arith)))
 
 pub returns-then-fault-ne0 : goal.returns-then-fault-ne0
 unfolding first_row mission_rows
-returns-then-fault-ne0 c tie.Need-returns-2 unfolding first_row mission_rows returns-2 c =
+returns-then-fault-ne0 c =
     sym
-    (past-9 c.before.before
-    ∙ rw (sym c.before.mission-text.ensures, ne_eqb c.before.mission-text.result 0 c.if2.true))
+    (past-9 (goal.at.returns-then-fault-ne0 c).Else-b-ne39
+    ∙ rw (sym c.mission_text-fault.ensures, ne_eqb c.mission_text-fault.result 0 c.if-fault-ne0.true))
 
 pub returns-then-not-is_between : goal.returns-then-not-is_between
 unfolding first_row mission_rows value total
-returns-then-not-is_between c tie.Need-returns-3 unfolding first_row mission_rows value total returns-3 c =
+returns-then-not-is_between c =
     sym
-    (past-10 c.before.before.before
-    ∙ rw (one_byte 37 c.before.before.before.before.before.before.before.args.b.now, sym c.before.is-between.ensures ∙ not-true _ c.if3.true))
+    (past-10 (goal.at.returns-then-not-is_between c).Else-fault-ne0
+    ∙ rw (one_byte 37 c.args.b.now, sym c.is_between.ensures ∙ not-true _ c.if-not-is_between.true-raw))
 
 pub returns-then-not-is_between-2 : goal.returns-then-not-is_between-2
 unfolding first_row mission_rows value total
-returns-then-not-is_between-2 c tie.Need-returns-4 unfolding first_row mission_rows value total returns-4 c =
+returns-then-not-is_between-2 c =
     sym
-    (past-month c.before.before.before
-    ∙ rw (one_byte 38 c.before.before.before.before.before.before.before.before.before.before.args.b.now, sym c.before.is-between2.ensures ∙ not-true _ c.if4.true))
+    (past-month (goal.at.returns-then-not-is_between-2 c).Else-not-is_between
+    ∙ rw (one_byte 38 c.args.b.now, sym c.is_between-2.ensures ∙ not-true _ c.if-not-is_between-2.true-raw))
 
 pub returns : goal.returns
 unfolding first_row mission_rows value total
-returns c tie.Need-returns-5 unfolding first_row mission_rows value total returns-5 c =
+returns c =
     sym
-    (past-month c.before.before.before
-    ∙ rw (one_byte 38 c.before.before.before.before.before.before.before.before.before.before.args.b.now, sym c.before.is-between2.ensures ∙ not-false _ c.if4.false))
+    (past-month (goal.at.returns c).Else-not-is_between
+    ∙ rw (one_byte 38 c.args.b.now, sym c.is_between-2.ensures ∙ not-false _ c.if-not-is_between-2.false-raw))

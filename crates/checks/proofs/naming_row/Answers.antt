@@ -6,8 +6,8 @@ use Rattle.checks.proofs.naming_row.Goals as goal
 
 pub returns-then-field-eq0 : goal.returns-then-field-eq0
 unfolding first_row
-returns-then-field-eq0 c tie.Need-returns unfolding first_row returns c = rw (eq-eqb c.before.args.field 0 c.if1.true)
+returns-then-field-eq0 c = rw (eq-eqb c.args.field 0 c.if-field-eq0.true)
 
 pub returns-else-field-eq0 : goal.returns-else-field-eq0
 unfolding first_row
-returns-else-field-eq0 c tie.Need-returns-2 unfolding first_row returns-2 c = rw (ne_eqb c.before.args.field 0 c.if1.false)
+returns-else-field-eq0 c = rw (ne_eqb c.args.field 0 c.if-field-eq0.false)

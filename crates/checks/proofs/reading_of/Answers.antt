@@ -7,11 +7,11 @@ use Rattle.format.proofs.Acceptance.{header-sized, header-digit}
 use Rattle.checks.proofs.reading_of.Goals as goal
 
 pub bounds-packet-0 : goal.bounds-packet-0
-bounds-packet-0 c tie.Need-shared-slice-read-first shared-slice-read-first c = let s = c.before in omega (arith, (header-sized s.args.settings s.args.packet.now s.requires).long)
+bounds-packet-0 c = omega (arith, (header-sized c.args.settings c.args.packet.now c.requires).long)
 
 pub overflow_sub-version : goal.overflow_sub-version
-overflow_sub-version c tie.Need-overflow-sub-version sub-version c = let s = c.before in header-digit s.args.settings s.args.packet.now s.requires
+overflow_sub-version c = header-digit c.args.settings c.args.packet.now c.requires
 
 pub returns : goal.returns
 unfolding version
-returns c tie.Need-returns unfolding version returns c = refl
+returns c = refl

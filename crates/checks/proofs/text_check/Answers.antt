@@ -9,8 +9,8 @@ use Rattle.checks.proofs.text_check.Goals as goal
 
 pub returns-then-b-lt20 : goal.returns-then-b-lt20
 unfolding first_row text_rows
-returns-then-b-lt20 c tie.Need-returns unfolding first_row text_rows returns c = rw (lt-ltb (s2 c.before.before.args.b.now) 25 (omega arith))
+returns-then-b-lt20 c = rw (lt-ltb (s2 c.args.b.now) 25 (omega arith))
 
 pub returns : goal.returns
 unfolding first_row text_rows
-returns c tie.Need-returns-2 unfolding first_row text_rows returns-2 c = rw (le-ltb (s2 c.before.before.before.before.args.b.now) 25 (omega arith), sym c.before.free-text.ensures) c.naming-row.ensures
+returns c = rw (le-ltb (s2 c.args.b.now) 25 (omega arith), sym c.free_text.ensures) c.naming_row.ensures

@@ -6,4 +6,4 @@ use Rattle.copies.proofs.clear1.Goals as goal
 
 pub returns : goal.returns
 unfolding pad
-returns c tie.Need-returns unfolding pad returns c = refl
+returns c = refl

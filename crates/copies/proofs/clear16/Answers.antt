@@ -8,4 +8,4 @@ use Rattle.copies.proofs.clear16.Goals as goal
 
 pub returns : goal.returns
 unfolding pad
-returns c tie.Need-returns unfolding pad returns c = let a = c.before.before.before.before.before.before.before.before.before.args in then (pad 8 []) (pad 8 []) a.o.now a.q 8 c.before.before.before.before.before.before.clear8.ensures refl c.before.before.clear82.ensures
+returns c = let a = c.args in then (pad 8 []) (pad 8 []) a.o.now a.q 8 c.clear8.ensures refl c.clear8-2.ensures

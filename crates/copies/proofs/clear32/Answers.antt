@@ -8,4 +8,4 @@ use Rattle.copies.proofs.clear32.Goals as goal
 
 pub returns : goal.returns
 unfolding pad
-returns c tie.Need-returns unfolding pad returns c = let a = c.before.before.before.before.before.before.before.before.before.args in then (pad 16 []) (pad 16 []) a.o.now a.q 16 c.before.before.before.before.before.before.clear16.ensures refl c.before.before.clear162.ensures
+returns c = let a = c.args in then (pad 16 []) (pad 16 []) a.o.now a.q 16 c.clear16.ensures refl c.clear16-2.ensures

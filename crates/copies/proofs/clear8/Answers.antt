@@ -6,4 +6,4 @@ use Rattle.copies.proofs.clear8.Goals as goal
 
 pub returns : goal.returns
 unfolding bytes pad
-returns c tie.Need-returns unfolding bytes pad returns c = c.before.before.put-u64.ensures
+returns c = c.put_u64.ensures

@@ -6,10 +6,10 @@ use Rattle.copies.proofs.Copied.{cleared-next, cleared-first, cleared-last}
 use Rattle.copies.proofs.clear_all.Goals as goal
 
 pub loop-i-init : goal.loop-i-init
-loop-i-init c tie.Need-loop-init invariant-loop decreases-loop loop-holds c = search (rules, cleared-first)
+loop-i-init c = search (rules, cleared-first)
 
 pub loop-i-preserved : goal.loop-i-preserved
-loop-i-preserved c tie.Need-loop-preserved invariant-loop decreases-loop loop-again c = search (rules, cleared-next)
+loop-i-preserved c = search (rules, cleared-next)
 
 pub returns : goal.returns
-returns c tie.Need-returns invariant-loop decreases-loop returns c = search (rules, cleared-last)
+returns c = search (rules, cleared-last)

@@ -6,4 +6,4 @@ use Rattle.copies.proofs.Copied.{one_byte}
 use Rattle.copies.proofs.copy1.Goals as goal
 
 pub returns : goal.returns
-returns c tie.Need-returns returns c = let a = c.before.args in ap (sets a.o.now a.q) (sym (one_byte a.s.now a.p c.before.requires.0))
+returns c = let a = c.args in ap (sets a.o.now a.q) (sym (one_byte a.s.now a.p c.requires.0))

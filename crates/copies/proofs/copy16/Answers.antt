@@ -5,4 +5,4 @@ use Rattle.copies.proofs.Copied.{copied-both}
 use Rattle.copies.proofs.copy16.Goals as goal
 
 pub returns : goal.returns
-returns c tie.Need-returns returns c = let a = c.before.before.before.before.before.before.before.before.before.before.args in copied-both 8 8 a.s.now a.o.now a.p a.q (omega arith) c.before.before.before.before.before.before.copy8.ensures c.before.before.copy82.ensures
+returns c = let a = c.args in copied-both 8 8 a.s.now a.o.now a.p a.q (omega arith) c.copy8.ensures c.copy8-2.ensures

@@ -5,7 +5,6 @@ use Rattle.copies.proofs.Copied.{copied-ends}
 use Rattle.copies.proofs.copy16_to_32.Goals as goal
 
 pub returns : goal.returns
-returns c tie.Need-returns returns c =
-    let first = c.before.before.before.before.before.before in
-    let a = first.before.before.before.before.args in
-    copied-ends 16 16 a.s.now a.o.now a.q (omega arith) (omega arith) (omega arith) first.copy16.ensures c.before.before.copy162.ensures
+returns c =
+    let a = c.args in
+    copied-ends 16 16 a.s.now a.o.now a.q (omega arith) (omega arith) (omega arith) c.copy16.ensures c.copy16-2.ensures

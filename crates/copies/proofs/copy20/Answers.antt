@@ -5,4 +5,4 @@ use Rattle.copies.proofs.Copied.{copied-both}
 use Rattle.copies.proofs.copy20.Goals as goal
 
 pub returns : goal.returns
-returns c tie.Need-returns returns c = let a = c.before.before.before.before.before.before.before.before.before.before.args in copied-both 16 4 a.s.now a.o.now a.p a.q (omega arith) c.before.before.before.before.before.before.copy16.ensures c.before.before.copy4.ensures
+returns c = let a = c.args in copied-both 16 4 a.s.now a.o.now a.p a.q (omega arith) c.copy16.ensures c.copy4.ensures

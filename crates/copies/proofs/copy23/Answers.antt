@@ -5,9 +5,9 @@ use Rattle.copies.proofs.Copied.{copied-both}
 use Rattle.copies.proofs.copy23.Goals as goal
 
 pub returns : goal.returns
-returns c tie.Need-returns returns c = let a = c.before.before.before.before.before.before.before.before.before.before.before.before.before.before.before.before.before.before.args in
+returns c = let a = c.args in
     copied-both 22 1 a.s.now a.o.now a.p a.q (omega arith)
     (copied-both 20 2 a.s.now a.o.now a.p a.q (omega arith)
-    (copied-both 16 4 a.s.now a.o.now a.p a.q (omega arith) c.before.before.before.before.before.before.before.before.before.before.before.before.before.before.copy16.ensures c.before.before.before.before.before.before.before.before.before.before.copy4.ensures)
-    c.before.before.before.before.before.before.copy2.ensures)
-    c.before.before.copy1.ensures
+    (copied-both 16 4 a.s.now a.o.now a.p a.q (omega arith) c.copy16.ensures c.copy4.ensures)
+    c.copy2.ensures)
+    c.copy1.ensures

@@ -14,10 +14,10 @@ use Rattle.distinct.proofs.is_among.Goals as goal
 use Rattle.distinct.proofs.is_among.Goals.{Joined-x-s}
 
 pub loop-i-init : goal.loop-i-init
-loop-i-init c tie.Need-loop-init invariant-loop decreases-loop loop-holds c = (omega arith, refl)
+loop-i-init c = (omega arith, refl)
 
 pub offset_bounds-s-i : goal.offset_bounds-s-i
-offset_bounds-s-i c tie.Need-overflow-mul-if1 invariant-loop decreases-loop mul-if1 c = let s = c.before.before in scaled_Fits c.before.loop.i (length s.args.s.now) 4 (omega arith) s.well-formed.1.0.1
+offset_bounds-s-i c = scaled_Fits c.loop-i.i (length c.args.s.now) 4 (omega arith) c.well-formed.1.0.1
 
 -- what was seen after the test
 seen-is : (c : Joined-x-s) → c.if-x-s.seen ≡ (c.loop-i.seen || eqb c.args.x (get_or c.args.s.now c.loop-i.i 0))
@@ -30,10 +30,9 @@ seen-is c =
     c.if-x-s.branch
 
 pub loop-i-preserved : goal.loop-i-preserved
-loop-i-preserved c tie.Need-loop-preserved invariant-loop decreases-loop loop-again c =
-    let i = c.before.before.before in
-    let a = i.before.args in
-    (omega arith, rw (seen-is c) (seen-turn a.x a.s.now i.loop.seen i.loop.i (omega arith) i.loop.invariant.1))
+loop-i-preserved c =
+    let a = c.args in
+    (omega arith, rw (seen-is (goal.at.loop-i-preserved c).Joined-x-s) (seen-turn a.x a.s.now c.loop-i.seen c.loop-i.i (omega arith) c.loop-i.invariant.1))
 
 pub returns : goal.returns
-returns c tie.Need-returns invariant-loop decreases-loop returns c = let a = c.before.before.args in seen_end a.x a.s.now c.before.loop.seen c.before.loop.i (omega arith) c.before.loop.invariant.1
+returns c = let a = c.args in seen_end a.x a.s.now c.loop-i.seen c.loop-i.i (omega arith) c.loop-i.invariant.1

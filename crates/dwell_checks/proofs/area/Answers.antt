@@ -19,54 +19,45 @@ use Rattle.dwell_checks.proofs.Positions.{area-is}
 use Rattle.dwell_checks.proofs.area.Goals as goal
 
 pub i32_if-requires : goal.i32_if-requires
-i32_if-requires c tie.Need-i32-if-requires i32-if-requires c =
-    let s = c.before in
-    let m = s.args.mask in
-    (lit≤ tt, lit≤ tt, field_room m 2 10 dwell_widths (lit≤ tt) (lit< tt) s.args.b.now 8 31 (omega (arith, before-10 m s.requires.0.1)) s.requires.0.2)
+i32_if-requires c =
+    let m = c.args.mask in
+    (lit≤ tt, lit≤ tt, field_room m 2 10 dwell_widths (lit≤ tt) (lit< tt) c.args.b.now 8 31 (omega (arith, before-10 m c.requires.0.1)) c.requires.0.2)
 
 pub u32_if-requires : goal.u32_if-requires
-u32_if-requires c tie.Need-u32-if-requires u32-if-requires c =
-    let s = c.before.before.before.before in
-    let m = s.args.mask in
-    (lit≤ tt, lit≤ tt, field_room m 2 11 dwell_widths (lit≤ tt) (lit< tt) s.args.b.now 8 (31 + c.width-if.result) (omega (arith, before-11 m s.requires.0.1)) s.requires.0.2)
+u32_if-requires c =
+    let m = c.args.mask in
+    (lit≤ tt, lit≤ tt, field_room m 2 11 dwell_widths (lit≤ tt) (lit< tt) c.args.b.now 8 (31 + c.width_if.result) (omega (arith, before-11 m c.requires.0.1)) c.requires.0.2)
 
 pub get_i32-requires : goal.get_i32-requires
 unfolding is_required
-get_i32-requires c tie.Need-get-i32-requires unfolding is_required get-i32-requires c =
-    let s = c.before.before.before.before.before in
-    field_room s.args.mask 2 24 dwell_widths (lit≤ tt) (lit< tt) s.args.b.now 8 s.args.at s.requires.1 s.requires.0.2 (s.requires.0.1 24 refl)
+get_i32-requires c =
+    field_room c.args.mask 2 24 dwell_widths (lit≤ tt) (lit< tt) c.args.b.now 8 c.args.at c.requires.1 c.requires.0.2 (c.requires.0.1 24 refl)
 
 pub overflow_add-at : goal.overflow_add-at
 unfolding total
-overflow_add-at c tie.Need-overflow-add-get-u32 unfolding total add-get-u32 c =
-    let s = c.before.before.before.before.before.before.before in
-    omega (arith, s.requires.1, announced-le s.args.mask 2 (widths 2 23))
+overflow_add-at c =
+    omega (arith, c.requires.1, announced-le c.args.mask 2 (widths 2 23))
 
 pub get_u32-requires : goal.get_u32-requires
 unfolding is_required
-get_u32-requires c tie.Need-get-u32-requires unfolding is_required get-u32-requires c =
-    let s = c.before.before.before.before.before.before.before in
-    let m = s.args.mask in
-    field_room m 2 25 dwell_widths (lit≤ tt) (lit< tt) s.args.b.now 8 (s.args.at + 4) (omega (arith, s.requires.1, before-25 m s.requires.0.1)) s.requires.0.2 (s.requires.0.1 25 refl)
+get_u32-requires c =
+    let m = c.args.mask in
+    field_room m 2 25 dwell_widths (lit≤ tt) (lit< tt) c.args.b.now 8 (c.args.at + 4) (omega (arith, c.requires.1, before-25 m c.requires.0.1)) c.requires.0.2 (c.requires.0.1 25 refl)
 
 pub returns : goal.returns
 unfolding is_required
-returns c tie.Need-returns unfolding is_required returns c =
-    let e24 = c.before.before in
-    let e11 = e24.before in
-    let e10 = e11.before.before.before in
-    let s = e10.before.before in
-    let h = s.requires.0 in
-    let m = s.args.mask in
-    let b = s.args.b.now in
-    let x = e10.i32-if in
-    let z = e24.get-i32 in (
+returns c =
+    let h = c.requires.0 in
+    let m = c.args.mask in
+    let b = c.args.b.now in
+    let x = c.i32_if in
+    let z = c.get_i32 in (
       area-is (dwell_fields b)
-          (e11.before.before.latitude-steps.ensures.0 ∙ to_z-of_z (sfits_of {w = w32} {z = x.result} x.type-inv)
+          (c.latitude_steps.ensures.0 ∙ to_z-of_z (sfits_of {w = w32} {z = x.result} x.type_inv)
           ∙ field-signed m 2 10 dwell_widths (lit≤ tt) (lit< tt) b 8 31 (omega (arith, before-10 m h.1)) x.ensures ∙ by_mask (D± 10) b m h.0)
-          (field-read m 2 11 dwell_widths (lit≤ tt) (lit< tt) b 8 (31 + e11.before.width-if.result) (omega (arith, before-11 m h.1)) e11.u32-if.ensures ∙ by_mask (D 11) b m h.0)
-          (c.before.latitude-steps2.ensures.0 ∙ to_z-of_z (sfits_of {w = w32} {z = z.result} z.type-inv)
-          ∙ signed-there m 2 24 dwell_widths (lit≤ tt) (lit< tt) b 8 s.args.at (h.1 24 refl) s.requires.1 z.ensures ∙ by_mask (D± 24) b m h.0)
-          (value_there m 2 25 dwell_widths (lit≤ tt) (lit< tt) b 8 (s.args.at + 4) (h.1 25 refl) (omega (arith, s.requires.1, before-25 m h.1)) c.get-u32.ensures ∙ by_mask (D 25) b m h.0),
-      (e11.before.before.latitude-steps.ensures.1, c.before.latitude-steps2.ensures.1),
+          (field-read m 2 11 dwell_widths (lit≤ tt) (lit< tt) b 8 (31 + c.width_if.result) (omega (arith, before-11 m h.1)) c.u32_if.ensures ∙ by_mask (D 11) b m h.0)
+          (c.latitude_steps-2.ensures.0 ∙ to_z-of_z (sfits_of {w = w32} {z = z.result} z.type_inv)
+          ∙ signed-there m 2 24 dwell_widths (lit≤ tt) (lit< tt) b 8 c.args.at (h.1 24 refl) c.requires.1 z.ensures ∙ by_mask (D± 24) b m h.0)
+          (value_there m 2 25 dwell_widths (lit≤ tt) (lit< tt) b 8 (c.args.at + 4) (h.1 25 refl) (omega (arith, c.requires.1, before-25 m h.1)) c.get_u32.ensures ∙ by_mask (D 25) b m h.0),
+      (c.latitude_steps.ensures.1, c.latitude_steps-2.ensures.1),
     )

@@ -89,74 +89,63 @@ past-15 c = past-11 (goal.at.Else-new-ne0 c).Else-fault-ne0 ∙ rw (sym (new_is 
 
 pub returns-then-b-lt8 : goal.returns-then-b-lt8
 unfolding first_row dwell_rows
-returns-then-b-lt8 c tie.Need-returns unfolding first_row dwell_rows returns c = rw (lt-ltb (s2 c.before.before.args.b.now) 13 (omega arith))
+returns-then-b-lt8 c = rw (lt-ltb (s2 c.args.b.now) 13 (omega arith))
 
 pub returns-then-fault-ne0 : goal.returns-then-fault-ne0
 unfolding first_row dwell_rows
-returns-then-fault-ne0 c tie.Need-returns-2 unfolding first_row dwell_rows returns-2 c =
-    sym (past-9 c.before.before.before ∙ rw (sym (fault-is c.before), ne_eqb c.before.lowest-fault.result 0 c.if2.true))
+returns-then-fault-ne0 c =
+    sym (past-9 (goal.at.returns-then-fault-ne0 c).Else-b-lt8 ∙ rw (sym (fault-is (goal.at.returns-then-fault-ne0 c).After-lowest_fault-fault), ne_eqb c.lowest_fault-fault.result 0 c.if-fault-ne0.true))
 
 pub returns-then-new-ne0 : goal.returns-then-new-ne0
 unfolding first_row dwell_rows
-returns-then-new-ne0 c tie.Need-returns-3 unfolding first_row dwell_rows returns-3 c =
-    sym (past-11 c.before.before ∙ rw (sym (new_is c.before), ne_eqb c.before.new-field.result 0 c.if3.true))
+returns-then-new-ne0 c =
+    sym (past-11 (goal.at.returns-then-new-ne0 c).Else-fault-ne0 ∙ rw (sym (new_is (goal.at.returns-then-new-ne0 c).After-new_field-new), ne_eqb c.new_field-new.result 0 c.if-new-ne0.true))
 
 pub overflow_add-at : goal.overflow_add-at
-overflow_add-at c tie.Need-overflow-add-at add_at c = omega (arith, c.length-before-d24.ensures.1)
+overflow_add-at c = omega (arith, c.length_before_d24-at.ensures.1)
 
 pub overflow_add-start : goal.overflow_add-start
-overflow_add-start c tie.Need-overflow-add-start add_start c = omega (arith, c.before.length-before-d24.ensures.1, c.length-from-d24.ensures.1)
+overflow_add-start c = omega (arith, c.length_before_d24-at.ensures.1, c.length_from_d24.ensures.1)
 
 pub returns-then-b-start : goal.returns-then-b-start
 unfolding first_row dwell_rows
-returns-then-b-start c tie.Need-returns-4 unfolding first_row dwell_rows returns-4 c =
-    let at = c.before in
-    let b = at.before.before.before.before.before.before.before.before.before.args.b.now in
-    sym (past-15 at.before.before ∙ rw (wrong_size b (required at.before.before.before.before) (λ e. absurd (omega (arith, start_is at, c.if4.true)))))
+returns-then-b-start c =
+    let b = c.args.b.now in
+    sym (past-15 (goal.at.returns-then-b-start c).Else-new-ne0 ∙ rw (wrong_size b (required (goal.at.returns-then-b-start c).Else-fault-ne0) (λ e. absurd (omega (arith, start_is (goal.at.returns-then-b-start c).After-length_from_d24, c.if-b-start.true)))))
 
 pub target_count-count-requires : goal.target_count-count-requires
-target_count-count-requires c tie.Need-target-count-requires target-count-requires c =
-    let at = c.before in
-    let h = required at.before.before.before.before in
-    (h, omega (arith, required-length _ h, start_is at))
+target_count-count-requires c =
+    let h = required (goal.at.target_count-count-requires c).Else-fault-ne0 in
+    (h, omega (arith, required-length _ h, start_is (goal.at.target_count-count-requires c).After-length_from_d24))
 
 pub overflow_mul-count : goal.overflow_mul-count
-overflow_mul-count c tie.Need-overflow-mul-if5 mul-if5 c = omega (arith, size_fits c)
+overflow_mul-count c = omega (arith, size_fits (goal.at.overflow_mul-count c).After-target_length-each)
 
 pub overflow_add-start-2 : goal.overflow_add-start-2
-overflow_add-start-2 c tie.Need-overflow-add-if5 add-if5 c = omega (arith, size_fits c)
+overflow_add-start-2 c = omega (arith, size_fits (goal.at.overflow_add-start-2 c).After-target_length-each)
 
 pub returns-then-b-start-2 : goal.returns-then-b-start-2
 unfolding first_row dwell_rows
-returns-then-b-start-2 c tie.Need-returns-5 unfolding first_row dwell_rows returns-5 c =
-    let at = c.before.before.before.before in
-    let b = at.before.before.before.before.before.before.before.before.before.args.b.now in
-    sym (past-15 at.before.before ∙ rw (wrong_size b (required at.before.before.before.before) (λ e. c.if5.true (e ∙ sym (size_is c.before)))))
+returns-then-b-start-2 c =
+    let b = c.args.b.now in
+    sym (past-15 (goal.at.returns-then-b-start-2 c).Else-new-ne0 ∙ rw (wrong_size b (required (goal.at.returns-then-b-start-2 c).Else-fault-ne0) (λ e. c.if-b-start-2.true (e ∙ sym (size_is (goal.at.returns-then-b-start-2 c).After-target_length-each)))))
 
 pub plan_by-requires : goal.plan_by-requires
-plan_by-requires c tie.Need-plan-by-requires plan-by-requires c =
-    let at = c.before.before.before.before in
-    let past-11 = at.before.before.before.before in
-    let m = past-11.before.before.get-u64.result in
-    let h = required-there past-11 in
-    let before = at.before.length-before-d24.ensures.0 in
-    let start c start_of at ≡ 8 + announced_length m 2 dwell_widths = omega (arith, before, at.length-from-d24.ensures.0, split-24 m h) in
-    ((mask_is past-11.before.before, h, omega (arith, start)), ap (λ (k c ℕ). 8 + k) before, start, c.before.target-length.ensures, c.before.before.target-count.ensures)
+plan_by-requires c =
+    let m = c.get_u64-mask.result in
+    let h = required-there (goal.at.plan_by-requires c).Else-fault-ne0 in
+    let before = c.length_before_d24-at.ensures.0 in
+    let start : start_of c ≡ 8 + announced_length m 2 dwell_widths = omega (arith, before, c.length_from_d24.ensures.0, split-24 m h) in
+    ((mask_is (goal.at.plan_by-requires c).After-get_u64-mask, h, omega (arith, start)), ap (λ (k : ℕ). 8 + k) before, start, c.target_length-each.ensures, c.target_count-count.ensures)
 
 pub dwell_values-requires : goal.dwell_values-requires
-dwell_values-requires c tie.Need-dwell-values-requires dwell-values-requires c =
-    let size = c.before.before in
-    let at = size.before.before.before in
-    let b = at.before.before.before.before.before.before.before.before.before.args.b.now in
-    let h = required at.before.before.before.before in
-    let p = c.plan-by in
-    (h, p.ensures.0, p.ensures.1, targets-within b h p.result p.ensures.0 (c.before.if5.false ∙ size_is c.before.before))
+dwell_values-requires c =
+    let b = c.args.b.now in
+    let h = required (goal.at.dwell_values-requires c).Else-fault-ne0 in
+    let p = c.plan_by in
+    (h, p.ensures.0, p.ensures.1, targets-within b h p.result p.ensures.0 (c.if-b-start-2.false ∙ size_is (goal.at.dwell_values-requires c).After-target_length-each))
 
 pub returns : goal.returns
 unfolding first_row dwell_rows
-returns c tie.Need-returns-6 unfolding first_row dwell_rows returns-6 c =
-    let past = c.before.before in
-    let size = past.before in
-    let at = size.before.before.before in
-    let s = at.before.before.before.before.before.before.before.before.before in
-    sym (past-15 at.before.before ∙ rw (right-size s.args.b.now (required at.before.before.before.before) (past.if5.false ∙ size_is size)) (sym (c.dwell-values.ensures s.args.r)))
+returns c =
+    sym (past-15 (goal.at.returns c).Else-new-ne0 ∙ rw (right-size c.args.b.now (required (goal.at.returns c).Else-fault-ne0) (c.if-b-start-2.false ∙ size_is (goal.at.returns c).After-target_length-each)) (sym (c.dwell_values.ensures c.args.r)))

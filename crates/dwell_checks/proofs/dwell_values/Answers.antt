@@ -25,46 +25,38 @@ d4-right c =
     rw (sym (d4-is b c.requires.0)) (le-ltb 1 (get_or b 12 0) c.if-b-gt1.false)
 
 pub bounds-b-12 : goal.bounds-b-12
-bounds-b-12 c tie.Need-shared-slice-read-if1 shared-slice-read-if1 c = let h = c.before.before.requires in omega (arith, required-length _ h.0, ap (λ (q c Plan). q.start) h.1, h.3)
+bounds-b-12 c = let h = c.requires in omega (arith, required-length _ h.0, ap (λ (q : Plan). q.start) h.1, h.3)
 
 pub returns-then-b-gt1 : goal.returns-then-b-gt1
 unfolding first_row dwell_rows
-returns-then-b-gt1 c tie.Need-returns unfolding first_row dwell_rows returns c = λ r.
-    let s = c.before.before.before in
-    let b = s.args.b.now in
-    rw (sym (d4-is b s.requires.0), lt-ltb 1 (get_or b 12 0) c.if1.true)
+returns-then-b-gt1 c = λ r.
+    let b = c.args.b.now in
+    rw (sym (d4-is b c.requires.0), lt-ltb 1 (get_or b 12 0) c.if-b-gt1.true)
 
 pub returns-then-not-is_placed : goal.returns-then-not-is_placed
 unfolding first_row dwell_rows
-returns-then-not-is_placed c tie.Need-returns-2 unfolding first_row dwell_rows returns-2 c = λ r.
-    let some = c.before.before in
-    let four = some.before.before in
-    let s = four.before.before.before in
-    let e = s.requires.1 in
-    rw (d4-right four, sym (ap (λ (q c Plan). q.count) e), lt-ltb 0 s.args.p.count some.if2.true, sym (ap (λ (q c Plan). q.mask) e), sym c.before.is-placed.ensures ∙ not-true _ c.if3.true)
+returns-then-not-is_placed c = λ r.
+    let e = c.requires.1 in
+    rw (d4-right (goal.at.returns-then-not-is_placed c).Else-b-gt1, sym (ap (λ (q : Plan). q.count) e), lt-ltb 0 c.args.p.count c.if-p-gt0.true, sym (ap (λ (q : Plan). q.mask) e), sym c.is_placed.ensures ∙ not-true _ c.if-not-is_placed.true-raw)
 
 pub targets_check-requires : goal.targets_check-requires
-targets_check-requires c tie.Need-targets-check-requires targets-check-requires c =
-    let s = c.before.before.before.before.before.before in
-    targets-there s.args.b.now s.args.p s.requires.1 s.requires.2 s.requires.3
+targets_check-requires c =
+    targets-there c.args.b.now c.args.p c.requires.1 c.requires.2 c.requires.3
 
 pub returns : goal.returns
 unfolding first_row dwell_rows
-returns c tie.Need-returns-3 unfolding first_row dwell_rows returns-3 c = λ r.
-    let join = c.before.before in
-    let four = join.before.before in
-    let s = four.before.before.before in
-    let p = s.args.p in
-    let b = s.args.b.now in
-    let e = s.requires.1 in
-    let some = sym (ap (λ (q c Plan). ltb 0 q.count) e) in
-    let placed = sym (ap (λ (q c Plan). is_placed q.mask) e) in
+returns c = λ r.
+    let p = c.args.p in
+    let b = c.args.b.now in
+    let e = c.requires.1 in
+    let some = sym (ap (λ (q : Plan). ltb 0 q.count) e) in
+    let placed = sym (ap (λ (q : Plan). is_placed q.mask) e) in
     let rest =
-    c.targets-check.ensures
-    ∙ ap (λ (t c List ℕ). first_row (targets_rows p.mask p.area p.count t)) (targets_are b p e)
-    ∙ ap (λ (q c Plan). first_row (targets_rows q.mask q.area q.count (targets_of b))) e in
-    rw (d4-right four)
+    c.targets_check.ensures
+    ∙ ap (λ (t : List ℕ). first_row (targets_rows p.mask p.area p.count t)) (targets_are b p e)
+    ∙ ap (λ (q : Plan). first_row (targets_rows q.mask q.area q.count (targets_of b))) e in
+    rw (d4-right (goal.at.returns c).Else-b-gt1)
     (⊎_elim
     (λ w. rw (some ∙ lt-ltb 0 p.count w.0.taken, placed ∙ sym w.1.ensures ∙ not-false _ w.2.left) rest)
     (λ w. rw (some ∙ le-ltb 0 p.count w.left) rest)
-    join.if2.branch)
+    c.else-p-gt0.branch)

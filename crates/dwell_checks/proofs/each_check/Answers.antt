@@ -22,47 +22,42 @@ left : (c : In-loop-i) → let n = c.args.p.count in n - c.loop-i.i ≡ suc (n -
 left c = omega arith
 
 pub loop-i-init : goal.loop-i-init
-loop-i-init c tie.Need-loop-init invariant-loop decreases-loop loop-holds c =
-    let a = c.before.before.args in
-    let e c a.p.count - 0 ≡ a.p.count = omega arith in
-    (omega arith, omega arith, ap (λ (n c ℕ). first_row (targets_rows a.p.mask a.p.area n a.t.now)) e)
+loop-i-init c =
+    let a = c.args in
+    let e : a.p.count - 0 ≡ a.p.count = omega arith in
+    (omega arith, omega arith, ap (λ (n : ℕ). first_row (targets_rows a.p.mask a.p.area n a.t.now)) e)
 
 pub slice_bounds-target_check-count : goal.slice_bounds-target_check-count
-slice_bounds-target_check-count c tie.Need-overflow-sub-target-check invariant-loop decreases-loop sub-target-check c = omega (arith, within c)
+slice_bounds-target_check-count c = omega (arith, within (goal.at.slice_bounds-target_check-count c).In-loop-i)
 
 pub slice_bounds-target_check-start : goal.slice_bounds-target_check-start
-slice_bounds-target_check-start c tie.Need-slice-bounds-target-check-start invariant-loop decreases-loop part-target-check-start c = omega (arith, within c)
+slice_bounds-target_check-start c = omega (arith, within (goal.at.slice_bounds-target_check-start c).In-loop-i)
 
 pub target_check-requires : goal.target_check-requires
-target_check-requires c tie.Need-target-check-requires invariant-loop decreases-loop target-check-requires c =
-    let s = c.before.before.before.before.before in
-    let at = c.before.before.loop.at in
-    (rw (tail-is at s.args.t.now, length-drop at s.args.t.now) (omega (arith, within c.before, s.requires.0.0)), s.requires.0.2, s.requires.1)
+target_check-requires c =
+    let at = c.loop-i.at in
+    (rw (tail-is at c.args.t.now, length-drop at c.args.t.now) (omega (arith, within (goal.at.target_check-requires c).In-loop-i, c.requires.0.0)), c.requires.0.2, c.requires.1)
 
 pub returns-in-Failed : goal.returns-in-Failed
-returns-in-Failed c tie.Need-returns invariant-loop decreases-loop returns c =
-    let turn = c.before.before.before.before.before in
-    let s = turn.before.before.before.before in
-    let p = s.args.p in
-    let l = turn.before.loop in
-    fault-found p.mask p.each p.area s.args.t.now l.at _ _ s.requires.0.0 (left turn) c.before.before.before.target-check.ensures l.invariant.2 _ _ c.before.number.given.1
+returns-in-Failed c =
+    let p = c.args.p in
+    let l = c.loop-i in
+    fault-found p.mask p.each p.area c.args.t.now l.at _ _ c.requires.0.0 (left (goal.at.returns-in-Failed c).In-loop-i) c.target_check.ensures l.invariant.2 _ _ c.in-Failed.is
 
 pub overflow_add-at : goal.overflow_add-at
-overflow_add-at c tie.Need-overflow-add-at invariant-loop decreases-loop add_at c = omega (arith, within c.before.before.before.before.before)
+overflow_add-at c = omega (arith, within (goal.at.overflow_add-at c).In-loop-i)
 
 pub loop-i-preserved : goal.loop-i-preserved
-loop-i-preserved c tie.Need-loop-preserved invariant-loop decreases-loop loop-again c =
-    let turn = c.before.before.before.before.before in
-    let s = turn.before.before.before.before in
-    let p = s.args.p in
-    let l = turn.before.loop in (
+loop-i-preserved c =
+    let p = c.args.p in
+    let l = c.loop-i in (
       omega arith,
       omega (arith, next_place l.i p.each, l.invariant.1),
-      fault-later p.mask p.each p.area s.args.t.now l.at _ _ s.requires.0.0 (left turn) c.before.before.before.target-check.ensures l.invariant.2 c.before.enum_told.given.1,
+      fault-later p.mask p.each p.area c.args.t.now l.at _ _ c.requires.0.0 (left (goal.at.loop-i-preserved c).In-loop-i) c.target_check.ensures l.invariant.2 c.in-Passed.is,
     )
 
 pub returns : goal.returns
-returns c tie.Need-returns-2 invariant-loop decreases-loop returns-2 c =
-    let a = c.before.before.before.before.args in
-    let l = c.before.loop in
+returns c =
+    let a = c.args in
+    let l = c.loop-i in
     sym (rows_end a.p.mask a.p.area (a.p.count - l.i) (drop l.at a.t.now) (omega arith)) ∙ l.invariant.2

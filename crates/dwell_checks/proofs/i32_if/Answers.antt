@@ -9,16 +9,16 @@ use Rattle.dwell_checks.proofs.Numbers.{if-there, if-absent}
 use Rattle.dwell_checks.proofs.i32_if.Goals as goal
 
 pub get_i32-requires : goal.get_i32-requires
-get_i32-requires c tie.Need-get-i32-requires get-i32-requires c = c.before.before.before.requires.2 (sym c.before.has.ensures ∙ c.if1.true)
+get_i32-requires c = c.requires.2 (sym c.has.ensures ∙ c.if-has.true)
 
 pub returns-then-has : goal.returns-then-has
 unfolding signed
-returns-then-has c tie.Need-returns unfolding signed returns c =
-    let a = c.before.before.before.before.args in
-    to_z-of_z (sfits_of {w = w32} {z = c.get-i32.result} c.get-i32.type-inv)
-    ∙ c.get-i32.ensures
-    ∙ ap (twos 4) (if-there a.mask a.n 4 a.at a.b.now (sym c.before.before.has.ensures ∙ c.before.if1.true) refl)
+returns-then-has c =
+    let a = c.args in
+    to_z-of_z (sfits_of {w = w32} {z = c.get_i32.result} c.get_i32.type_inv)
+    ∙ c.get_i32.ensures
+    ∙ ap (twos 4) (if-there a.mask a.n 4 a.at a.b.now (sym c.has.ensures ∙ c.if-has.true) refl)
 
 pub returns-else-has : goal.returns-else-has
 unfolding twos
-returns-else-has c tie.Need-returns-2 unfolding twos returns-2 c = let a = c.before.before.before.args in ap (twos 4) (if-absent a.mask a.n 4 a.at a.b.now (sym c.before.has.ensures ∙ c.if1.false))
+returns-else-has c = let a = c.args in ap (twos 4) (if-absent a.mask a.n 4 a.at a.b.now (sym c.has.ensures ∙ c.if-has.false))

@@ -6,12 +6,10 @@ use Rattle.position.specs.InnerAlways.{is_always_latitude}
 use Rattle.dwell_checks.proofs.is_always_latitude.Goals as goal
 
 pub returns-then-has : goal.returns-then-has
-returns-then-has c tie.Need-returns returns c =
-    let s = c.before.before in
-    sym (ap (λ (t c Bool). t || is_always_latitude s.args.area.d10.0 s.args.area.d24.0) (sym c.before.has.ensures ∙ c.if1.true))
+returns-then-has c =
+    sym (ap (λ (t : Bool). t || is_always_latitude c.args.area.d10.0 c.args.area.d24.0) (sym c.has.ensures ∙ c.if-has.true))
 
 pub returns-else-has : goal.returns-else-has
-returns-else-has c tie.Need-returns-2 returns-2 c =
-    let s = c.before.before.before in
-    c.is-always-latitude.ensures
-    ∙ sym (ap (λ (t c Bool). t || is_always_latitude s.args.area.d10.0 s.args.area.d24.0) (sym c.before.before.has.ensures ∙ c.before.if1.false))
+returns-else-has c =
+    c.is_always_latitude.ensures
+    ∙ sym (ap (λ (t : Bool). t || is_always_latitude c.args.area.d10.0 c.args.area.d24.0) (sym c.has.ensures ∙ c.if-has.false))

@@ -7,9 +7,8 @@ use Rattle.dwell_checks.proofs.Within.{always-inside}
 use Rattle.dwell_checks.proofs.is_out.Goals as goal
 
 pub returns-then-inside : goal.returns-then-inside
-returns-then-inside c tie.Need-returns returns c =
-    let s = c.before.before in
-    sym (ap not (always-inside s.args.mask s.args.area s.args.t.now (λ i. (c.before.shared-slice-known.given i).fits) (sym s.requires.2 ∙ c.if1.true)))
+returns-then-inside c =
+    sym (ap not (always-inside c.args.mask c.args.area c.args.t.now (λ i. (c.shared_slice_known-1.given i).fits) (sym c.requires.2 ∙ c.if-inside.true)))
 
 pub returns-else-inside : goal.returns-else-inside
-returns-else-inside c tie.Need-returns-2 returns-2 c = ap not (c.is-latitude.ensures ∙ ap is_latitude c.before.latitude-of.ensures)
+returns-else-inside c = ap not (c.is_latitude.ensures ∙ ap is_latitude c.latitude_of.ensures)

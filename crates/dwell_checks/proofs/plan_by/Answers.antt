@@ -4,4 +4,4 @@ use Rattle.dwell_checks.proofs.Plans.{plan-is}
 use Rattle.dwell_checks.proofs.plan_by.Goals as goal
 
 pub returns : goal.returns
-returns c tie.Need-returns returns c = let s = c.before.before in (plan-is s.args.b.now s.requires.0.0 s.requires.2 s.requires.3 s.requires.4 c.area.ensures.0, c.area.ensures.1)
+returns c = (plan-is c.args.b.now c.requires.0.0 c.requires.2 c.requires.3 c.requires.4 c.area-area.ensures.0, c.area-area.ensures.1)

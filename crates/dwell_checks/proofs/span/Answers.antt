@@ -13,20 +13,20 @@ use Rattle.dwell_checks.proofs.span.Goals as goal
 
 pub loop-n-init : goal.loop-n-init
 unfolding announced_length
-loop-n-init c tie.Need-loop-init invariant-loop decreases-loop unfolding announced_length loop-holds c =
+loop-n-init c =
     let a = c.args in
-    let e c a.first - a.first ≡ 0 = omega arith in
-    (refl, omega arith, omega arith, omega arith, sym (ap (λ (j c ℕ). announced_length a.mask a.first (take j (drop (a.first - 2) (dwell_widths ++ target_widths)))) e))
+    let e : a.first - a.first ≡ 0 = omega arith in
+    (refl, omega arith, omega arith, omega arith, sym (ap (λ (j : ℕ). announced_length a.mask a.first (take j (drop (a.first - 2) (dwell_widths ++ target_widths)))) e))
 
 pub loop-n-preserved : goal.loop-n-preserved
-loop-n-preserved c tie.Need-loop-preserved invariant-loop decreases-loop loop-again c =
-    let a = c.before.before.before.args in
-    let l = c.before.before.loop in
+loop-n-preserved c =
+    let a = c.args in
+    let l = c.loop-n in
     (refl, omega arith, omega arith, omega arith, omega (arith, span-next a.mask a.first l.n (omega arith) (omega arith) (omega arith)))
 
 pub returns : goal.returns
-returns c tie.Need-returns invariant-loop decreases-loop returns c =
-    let a = c.before.before.args in
-    let l = c.before.loop in
-    let e c l.n ≡ a.last + 1 = omega arith in
-    (l.invariant.4 ∙ ap (λ (j c ℕ). announced_length a.mask a.first (take (j - a.first) (drop (a.first - 2) (dwell_widths ++ target_widths)))) e, omega arith)
+returns c =
+    let a = c.args in
+    let l = c.loop-n in
+    let e : l.n ≡ a.last + 1 = omega arith in
+    (l.invariant.4 ∙ ap (λ (j : ℕ). announced_length a.mask a.first (take (j - a.first) (drop (a.first - 2) (dwell_widths ++ target_widths)))) e, omega arith)

@@ -49,45 +49,32 @@ error c =
     ap (ltb 5000) (sym (target-read a.mask 46 _ a.t.now (lit≤ tt) (lit< tt) (place-15 (goal.at.After-u16_if c).After-span-2) c.u16_if.ensures))
 
 pub i16_if-requires : goal.i16_if-requires
-i16_if-requires c tie.Need-i16-if-requires i16-if-requires c =
-    let at = c.before.before.span in
-    let s = c.before.before.before.before in
-    target-asked s.args.mask 37 at.result s.args.t.now (lit≤ tt) (lit< tt) at.ensures.0 s.requires.0
+i16_if-requires c =
+    let at = c.span-d32_6 in
+    target-asked c.args.mask 37 at.result c.args.t.now (lit≤ tt) (lit< tt) at.ensures.0 c.requires.0
 
 pub returns-then-i16_if-ltminus1000 : goal.returns-then-i16_if-ltminus1000
-returns-then-i16_if-ltminus1000 c tie.Need-returns returns c =
-    let one = c.before in
-    let a = one.before.before.before.before.before.args in
-    sym (rows_are a.mask a.area a.t.now (speed one ∙ c.if1.true) refl refl refl)
+returns-then-i16_if-ltminus1000 c =
+    let a = c.args in
+    sym (rows_are a.mask a.area a.t.now (speed (goal.at.returns-then-i16_if-ltminus1000 c).After-i16_if ∙ c.if-i16_if-ltminus1000.true) refl refl refl)
 
 pub u8_if-requires : goal.u8_if-requires
-u8_if-requires c tie.Need-u8-if-requires u8-if-requires c =
-    let at = c.before.before.before in
-    let s = at.before.before.before in
-    target-asked s.args.mask 42 _ s.args.t.now (lit≤ tt) (lit< tt) (place-11 at) s.requires.0
+u8_if-requires c =
+    target-asked c.args.mask 42 _ c.args.t.now (lit≤ tt) (lit< tt) (place-11 (goal.at.u8_if-requires c).After-span) c.requires.0
 
 pub returns-then-u8_if-gt100 : goal.returns-then-u8_if-gt100
-returns-then-u8_if-gt100 c tie.Need-returns-2 returns-2 c =
-    let two = c.before in
-    let past = two.before in
-    let one = past.before in
-    let a = one.before.before.before.before.before.args in
-    sym (rows_are a.mask a.area a.t.now (speed one ∙ past.if1.false) (probability two ∙ lt-ltb 100 two.u8-if.result c.if2.true) refl refl)
+returns-then-u8_if-gt100 c =
+    let a = c.args in
+    sym (rows_are a.mask a.area a.t.now (speed (goal.at.returns-then-u8_if-gt100 c).After-i16_if ∙ c.if-i16_if-ltminus1000.false) (probability (goal.at.returns-then-u8_if-gt100 c).After-u8_if ∙ lt-ltb 100 c.u8_if.result c.if-u8_if-gt100.true) refl refl)
 
 pub u16_if-requires : goal.u16_if-requires
-u16_if-requires c tie.Need-u16-if-requires u16-if-requires c =
-    let at = c.before.before.before.before in
-    let s = at.before.before.before.before in
-    target-asked s.args.mask 46 _ s.args.t.now (lit≤ tt) (lit< tt) (place-15 at) s.requires.0
+u16_if-requires c =
+    target-asked c.args.mask 46 _ c.args.t.now (lit≤ tt) (lit< tt) (place-15 (goal.at.u16_if-requires c).After-span-2) c.requires.0
 
 pub returns-then-u16_if-gt5000 : goal.returns-then-u16_if-gt5000
-returns-then-u16_if-gt5000 c tie.Need-returns-3 returns-3 c =
-    let three = c.before in
-    let two = three.before.before in
-    let past = two.before in
-    let one = past.before in
-    let a = one.before.before.before.before.before.args in
-    sym (rows_are a.mask a.area a.t.now (speed one ∙ past.if1.false) (probability two ∙ le-ltb 100 two.u8-if.result (omega arith)) (error three ∙ lt-ltb 5000 three.u16-if.result c.if3.true) refl)
+returns-then-u16_if-gt5000 c =
+    let a = c.args in
+    sym (rows_are a.mask a.area a.t.now (speed (goal.at.returns-then-u16_if-gt5000 c).After-i16_if ∙ c.if-i16_if-ltminus1000.false) (probability (goal.at.returns-then-u16_if-gt5000 c).After-u8_if ∙ le-ltb 100 c.u8_if.result (omega arith)) (error (goal.at.returns-then-u16_if-gt5000 c).After-u16_if ∙ lt-ltb 5000 c.u16_if.result c.if-u16_if-gt5000.true) refl)
 
 -- once D32.6, D32.11 and D32.15 are right the latitude decides
 last : (c : After-is_out) → let a = c.args in first_row (target_rows a.mask a.area a.t.now) ≡ cond c.is_out.result (Failed 14 35) Passed
@@ -96,7 +83,7 @@ last c =
     rows_are a.mask a.area a.t.now (speed (goal.at.After-is_out c).After-i16_if ∙ c.if-i16_if-ltminus1000.false) (probability (goal.at.After-is_out c).After-u8_if ∙ le-ltb 100 c.u8_if.result (omega arith)) (error (goal.at.After-is_out c).After-u16_if ∙ le-ltb 5000 c.u16_if.result (omega arith)) (sym c.is_out.ensures)
 
 pub returns-then-is_out : goal.returns-then-is_out
-returns-then-is_out c tie.Need-returns-4 returns-4 c = sym (last c.before ∙ ap (λ (t c Bool). cond t (Failed 14 35) Passed) c.if4.true)
+returns-then-is_out c = sym (last (goal.at.returns-then-is_out c).After-is_out ∙ ap (λ (t : Bool). cond t (Failed 14 35) Passed) c.if-is_out.true)
 
 pub returns : goal.returns
-returns c tie.Need-returns-5 returns-5 c = sym (last c.before ∙ ap (λ (t c Bool). cond t (Failed 14 35) Passed) c.if4.false)
+returns c = sym (last (goal.at.returns c).After-is_out ∙ ap (λ (t : Bool). cond t (Failed 14 35) Passed) c.if-is_out.false)

@@ -12,7 +12,7 @@ use Rattle.dwell_checks.proofs.target_count.Goals as goal
 
 pub returns : goal.returns
 unfolding is_required dwell_fields target_count
-returns c tie.Need-returns unfolding is_required dwell_fields target_count returns c =
-    let b = c.before.before.args.b.now in
-    let h = c.before.before.requires.0 in
-    value_there (mask_of b) 2 5 dwell_widths (lit≤ tt) (lit< tt) b 8 13 (h 5 refl) (sym (ap (λ (m c ℕ). 8 + m) (before-5 (mask_of b) h))) c.get-u16.ensures
+returns c =
+    let b = c.args.b.now in
+    let h = c.requires.0 in
+    value_there (mask_of b) 2 5 dwell_widths (lit≤ tt) (lit< tt) b 8 13 (h 5 refl) (sym (ap (λ (m : ℕ). 8 + m) (before-5 (mask_of b) h))) c.get_u16.ensures

@@ -6,8 +6,6 @@ use Rattle.dwell_checks.proofs.Within.{targets-within}
 use Rattle.dwell_checks.proofs.targets_check.Goals as goal
 
 pub returns-then-p-eq0 : goal.returns-then-p-eq0
-returns-then-p-eq0 c tie.Need-returns returns c =
-    let inside = c.before.before in
-    let bytes = inside.before.before.before in
-    let a = bytes.before.args in
-    sym (targets-within a.p.mask a.p.area (sym inside.before.is-always-latitude.ensures ∙ inside.if1.true) (eqb-true _ 0 c.if2.true) a.p.count a.t.now (λ i. (bytes.shared-slice-known.given i).fits))
+returns-then-p-eq0 c =
+    let a = c.args in
+    sym (targets-within a.p.mask a.p.area (sym c.is_always_latitude-inside.ensures ∙ c.if-inside.true) (eqb-true _ 0 c.if-p-eq0.true-raw) a.p.count a.t.now (λ i. (c.shared_slice_known-1.given i).fits))

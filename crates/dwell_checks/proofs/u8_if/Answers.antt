@@ -7,12 +7,12 @@ use Rattle.dwell_checks.proofs.Numbers.{if-there, if-absent}
 use Rattle.dwell_checks.proofs.u8_if.Goals as goal
 
 pub bounds-b-at : goal.bounds-b-at
-bounds-b-at c tie.Need-shared-slice-read-result shared-slice-read-result c = omega (arith, c.before.before.before.before.requires.2 (sym c.before.before.has.ensures ∙ c.before.if1.true))
+bounds-b-at c = omega (arith, c.requires.2 (sym c.has.ensures ∙ c.if-has.true))
 
 pub returns-then-has : goal.returns-then-has
-returns-then-has c tie.Need-returns returns c =
-    let a = c.before.before.before.before.args in
-    if-there a.mask a.n 1 a.at a.b.now (sym c.before.before.has.ensures ∙ c.before.if1.true) (sym (one_byte a.at a.b.now))
+returns-then-has c =
+    let a = c.args in
+    if-there a.mask a.n 1 a.at a.b.now (sym c.has.ensures ∙ c.if-has.true) (sym (one_byte a.at a.b.now))
 
 pub returns-else-has : goal.returns-else-has
-returns-else-has c tie.Need-returns-2 returns-2 c = let a = c.before.before.before.args in if-absent a.mask a.n 1 a.at a.b.now (sym c.before.has.ensures ∙ c.if1.false)
+returns-else-has c = let a = c.args in if-absent a.mask a.n 1 a.at a.b.now (sym c.has.ensures ∙ c.if-has.false)

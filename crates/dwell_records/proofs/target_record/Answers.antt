@@ -14,20 +14,20 @@ use borrow.Author.Rules.{rules}
 use Rattle.dwell_records.proofs.target_record.Goals as goal
 
 pub latitude_micro-latitude-requires : goal.latitude_micro-latitude-requires
-latitude_micro-latitude-requires c tie.Need-latitude-micro-requires latitude-micro-requires c = ap is_latitude c.latitude-of.ensures ∙ c.before.before.before.before.before.before.before.before.before.before.before.requires.3
+latitude_micro-latitude-requires c = ap is_latitude c.latitude_of.ensures ∙ c.requires.3
 
 pub target_fields-requires : goal.target_fields-requires
 unfolding total
-target_fields-requires c tie.Need-target-fields-requires unfolding total target-fields-requires c = search rules
+target_fields-requires c = search rules
 
 pub returns : goal.returns
-returns c tie.Need-returns returns c =
-    let a = c.before.before.before.before.before.before.before.before.before.before.before.before.before.before.before.before.before.before.before.before.before.before.args in
-    let lat = c.before.before.before.before.before.before.before.before.before.before.latitude-micro in
-    let lon = c.before.before.before.before.longitude-micro in
+returns c =
+    let a = c.args in
+    let lat = c.latitude_micro-latitude in
+    let lon = c.longitude_micro-longitude in
     target-laid a.mask a.area a.t.now a.o.now lat.result lon.result
-    (lat.ensures ∙ ap latitude_micro c.before.before.before.before.before.before.before.before.before.before.before.latitude-of.ensures)
-    (lon.ensures ∙ ap longitude_micro c.before.before.before.before.before.longitude-of.ensures)
-    c.before.before.before.before.before.before.before.before.before.before.before.before.before.before.before.before.before.before.put_byte.ensures c.before.before.before.before.before.before.before.before.before.before.before.before.before.before.target-fields.ensures.stored
-    (c.before.before.before.before.before.before.before.before.put-i32.ensures ∙ ap (λ (z c ℤ). sets c.before.before.before.before.before.before.before.before.before.before.before.before.before.before.target-fields.new.1.1.1.0 37 (signed_bytes 4 z)) (to_z-of_z (sfits_of {w = w32} {z = lat.result} lat.type-inv)))
-    c.before.before.put-u32.ensures
+    (lat.ensures ∙ ap latitude_micro c.latitude_of.ensures)
+    (lon.ensures ∙ ap longitude_micro c.longitude_of.ensures)
+    c.put_byte.ensures c.target_fields.ensures.stored
+    (c.put_i32.ensures ∙ ap (λ (z : ℤ). sets c.target_fields.new.1.1.1.0 37 (signed_bytes 4 z)) (to_z-of_z (sfits_of {w = w32} {z = lat.result} lat.type_inv)))
+    c.put_u32.ensures

@@ -29,64 +29,58 @@ left : (c : In-loop-i) → let n = c.args.count in n - c.loop-i.i ≡ suc (n - (
 left c = omega arith
 
 pub loop-i-init : goal.loop-i-init
-loop-i-init c tie.Need-loop-init invariant-loop decreases-loop loop-holds c =
-    let s = c.before.before.before in
-    let a = s.args in
-    let e c a.count - 0 ≡ a.count = omega arith in (
+loop-i-init c =
+    let a = c.args in
+    let e : a.count - 0 ≡ a.count = omega arith in (
       omega arith,
       omega arith,
       omega arith,
       refl,
-      ap (λ (n c ℕ). first_row (targets_rows a.p.mask a.p.area n a.t.now)) e ∙ s.requires.2,
-      ap (λ (n c ℕ). sets a.o.now 0 (record_bytes (target_records a.p.mask a.p.area n a.t.now))) e,
+      ap (λ (n : ℕ). first_row (targets_rows a.p.mask a.p.area n a.t.now)) e ∙ c.requires.2,
+      ap (λ (n : ℕ). sets a.o.now 0 (record_bytes (target_records a.p.mask a.p.area n a.t.now))) e,
     )
 
 pub slice_bounds-target_record-count : goal.slice_bounds-target_record-count
-slice_bounds-target_record-count c tie.Need-overflow-sub-target-record invariant-loop decreases-loop sub-target-record c = omega (arith, within c)
+slice_bounds-target_record-count c = omega (arith, within (goal.at.slice_bounds-target_record-count c).In-loop-i)
 
 pub slice_bounds-target_record-start : goal.slice_bounds-target_record-start
-slice_bounds-target_record-start c tie.Need-slice-bounds-target-record-start invariant-loop decreases-loop part-target-record-start c = omega (arith, within c)
+slice_bounds-target_record-start c = omega (arith, within (goal.at.slice_bounds-target_record-start c).In-loop-i)
 
 pub slice_bounds-target_record-count-in-loop-i : goal.slice_bounds-target_record-count-in-loop-i
-slice_bounds-target_record-count-in-loop-i c tie.Need-overflow-sub-target-record-2 invariant-loop decreases-loop sub-target-record-2 c = omega (arith, within c.before)
+slice_bounds-target_record-count-in-loop-i c = omega (arith, within (goal.at.slice_bounds-target_record-count-in-loop-i c).In-loop-i)
 
 pub slice_bounds-target_record-start-in-loop-i : goal.slice_bounds-target_record-start-in-loop-i
-slice_bounds-target_record-start-in-loop-i c tie.Need-slice-bounds-target-record-start-2 invariant-loop decreases-loop part-target-record-start-2 c = omega (arith, within c.before)
+slice_bounds-target_record-start-in-loop-i c = omega (arith, within (goal.at.slice_bounds-target_record-start-in-loop-i c).In-loop-i)
 
 pub target_record-requires : goal.target_record-requires
-target_record-requires c tie.Need-target-record-requires invariant-loop decreases-loop target-record-requires c =
-    let turn = c.before.before in
-    let s = turn.before.before.before.before.before in
-    let p = s.args.p in
-    let l = turn.before.loop in
-    let h = within turn in
-    (rw (tail-is l.at s.args.t.now, length-drop l.at s.args.t.now) (omega (arith, s.requires.0.0)), search rules, s.requires.0.2, turn-placed p.mask p.area _ _ l.at s.args.t.now (left turn) l.invariant.4)
+target_record-requires c =
+    let p = c.args.p in
+    let l = c.loop-i in
+    let h = within (goal.at.target_record-requires c).In-loop-i in
+    (rw (tail-is l.at c.args.t.now, length-drop l.at c.args.t.now) (omega (arith, c.requires.0.0)), search rules, c.requires.0.2, turn-placed p.mask p.area _ _ l.at c.args.t.now (left (goal.at.target_record-requires c).In-loop-i) l.invariant.4)
 
 pub overflow_add-at : goal.overflow_add-at
-overflow_add-at c tie.Need-overflow-add-at invariant-loop decreases-loop add_at c = omega (arith, within c.before.before.before.before.before.before)
+overflow_add-at c = omega (arith, within (goal.at.overflow_add-at c).In-loop-i)
 
 pub overflow_add-q : goal.overflow_add-q
-overflow_add-q c tie.Need-overflow-add-q invariant-loop decreases-loop add-q c = omega (arith, within c.before.before.before.before.before.before)
+overflow_add-q c = omega (arith, within (goal.at.overflow_add-q c).In-loop-i)
 
 pub loop-i-preserved : goal.loop-i-preserved
-loop-i-preserved c tie.Need-loop-preserved invariant-loop decreases-loop loop-again c =
-    let stored = c.before.before.before in
-    let turn = stored.before.before.before in
-    let s = turn.before.before.before.before.before in
-    let t = s.args.t.now in
-    let p = s.args.p in
-    let l = turn.before.loop in (
+loop-i-preserved c =
+    let t = c.args.t.now in
+    let p = c.args.p in
+    let l = c.loop-i in (
       omega arith,
       omega (arith, next_place l.i p.each, l.invariant.1),
       omega arith,
       search rules,
-      rows_next p.mask p.area _ _ l.at p.each t (left turn) s.requires.0.0 l.invariant.4,
-      targets_next p.mask p.area _ _ l.at l.q p.each t l.o _ (left turn) s.requires.0.0
-          (part-laid (λ (x c List ℕ). record_bytes (target_record p.mask p.area x ∷ [])) t l.o l.at l.q stored.target-record.ensures) l.invariant.5,
+      rows_next p.mask p.area _ _ l.at p.each t (left (goal.at.loop-i-preserved c).In-loop-i) c.requires.0.0 l.invariant.4,
+      targets_next p.mask p.area _ _ l.at l.q p.each t l.o _ (left (goal.at.loop-i-preserved c).In-loop-i) c.requires.0.0
+          (part-laid (λ (x : List ℕ). record_bytes (target_record p.mask p.area x ∷ [])) t l.o l.at l.q c.target_record.ensures) l.invariant.5,
     )
 
 pub returns : goal.returns
-returns c tie.Need-returns invariant-loop decreases-loop returns c =
-    let a = c.before.before.before.before.before.args in
-    let l = c.before.loop in
+returns c =
+    let a = c.args in
+    let l = c.loop-i in
     targets-last a.p.mask a.p.area (a.count - l.i) l.at l.q a.t.now l.o _ (omega arith) l.invariant.5

@@ -6,4 +6,4 @@ use Rattle.editions.proofs.is_hrr_read.Goals as goal
 
 pub returns : goal.returns
 unfolding is_hrr
-returns c tie.Need-returns unfolding is_hrr returns c = refl
+returns c = refl

@@ -22,20 +22,20 @@ not-111 c = sym c.is_between-4.ensures ∙ c.if-is_between-4.false
 
 pub returns-then-is_between : goal.returns-then-is_between
 unfolding is_new_mode
-returns-then-is_between c tie.Need-returns unfolding is_new_mode returns c = rw (sym c.before.is-between.ensures ∙ c.if1.true)
+returns-then-is_between c = rw (sym c.is_between.ensures ∙ c.if-is_between.true)
 
 pub returns-then-is_between-2 : goal.returns-then-is_between-2
 unfolding is_new_mode
-returns-then-is_between-2 c tie.Need-returns-2 unfolding is_new_mode returns-2 c = rw (not-91 c.before.before, sym c.before.is-between2.ensures ∙ c.if2.true)
+returns-then-is_between-2 c = rw (not-91 (goal.at.returns-then-is_between-2 c).Else-is_between, sym c.is_between-2.ensures ∙ c.if-is_between-2.true)
 
 pub returns-then-is_between-3 : goal.returns-then-is_between-3
 unfolding is_new_mode
-returns-then-is_between-3 c tie.Need-returns-3 unfolding is_new_mode returns-3 c = rw (not-91 c.before.before.before.before, not-96 c.before.before, sym c.before.is-between3.ensures ∙ c.if3.true)
+returns-then-is_between-3 c = rw (not-91 (goal.at.returns-then-is_between-3 c).Else-is_between, not-96 (goal.at.returns-then-is_between-3 c).Else-is_between-2, sym c.is_between-3.ensures ∙ c.if-is_between-3.true)
 
 pub returns-then-is_between-4 : goal.returns-then-is_between-4
 unfolding is_new_mode
-returns-then-is_between-4 c tie.Need-returns-4 unfolding is_new_mode returns-4 c = rw (not-91 c.before.before.before.before.before.before, not-96 c.before.before.before.before, not-101 c.before.before, sym c.before.is-between4.ensures ∙ c.if4.true)
+returns-then-is_between-4 c = rw (not-91 (goal.at.returns-then-is_between-4 c).Else-is_between, not-96 (goal.at.returns-then-is_between-4 c).Else-is_between-2, not-101 (goal.at.returns-then-is_between-4 c).Else-is_between-3, sym c.is_between-4.ensures ∙ c.if-is_between-4.true)
 
 pub returns : goal.returns
 unfolding is_new_mode
-returns c tie.Need-returns-5 unfolding is_new_mode returns-5 c = rw (not-91 c.before.before.before.before.before.before.before, not-96 c.before.before.before.before.before, not-101 c.before.before.before, not-111 c.before) c.is-between5.ensures
+returns c = rw (not-91 (goal.at.returns c).Else-is_between, not-96 (goal.at.returns c).Else-is_between-2, not-101 (goal.at.returns c).Else-is_between-3, not-111 (goal.at.returns c).Else-is_between-4) c.is_between-5.ensures

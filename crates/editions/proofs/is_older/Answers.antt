@@ -6,8 +6,8 @@ use Rattle.editions.proofs.is_older.Goals as goal
 
 pub returns-then-r-eq1 : goal.returns-then-r-eq1
 unfolding is_older
-returns-then-r-eq1 c tie.Need-returns unfolding is_older returns c = rw (eq-eqb c.before.before.before.args.r.settings.edition 1 c.before.if1.true)
+returns-then-r-eq1 c = rw (eq-eqb c.args.r.settings.edition 1 c.if-r-eq1.true)
 
 pub returns-else-r-eq1 : goal.returns-else-r-eq1
 unfolding is_older
-returns-else-r-eq1 c tie.Need-returns-2 unfolding is_older returns-2 c = rw (ne_eqb c.before.before.args.r.settings.edition 1 c.if1.false)
+returns-else-r-eq1 c = rw (ne_eqb c.args.r.settings.edition 1 c.if-r-eq1.false)

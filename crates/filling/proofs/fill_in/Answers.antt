@@ -7,16 +7,14 @@ use Rattle.filling.proofs.fill_in.Goals as goal
 use Rattle.filling.proofs.fill_in.Goals.{In-Whole-record_at}
 
 pub returns-in_default : goal.returns-in_default
-returns-in_default c tie.Need-returns invariant-loop decreases-loop returns c =
-    let found = c.before in
-    let l = found.before.before.loop in
-    left-as-is l.invariant (filled-end _ _ (none-at l.older l.at _ found.record-at.ensures c.match.keys2))
+returns-in_default c =
+    let l = c.loop-kind in
+    left-as-is l.invariant (filled-end _ _ (none-at l.older l.at _ c.record_at.ensures c.in_default.keys2))
 
 pub returns-in_default-record_at : goal.returns-in_default-record_at
-returns-in_default-record_at c tie.Need-returns-2 invariant-loop decreases-loop returns-2 c =
-    let found = c.before in
-    let l = found.before.before.before.before.before.before.loop in
-    left-as-is l.invariant (given-end _ _ (none-at _ l.from _ found.record-at2.ensures c.match2.keys2))
+returns-in_default-record_at c =
+    let l = c.loop-kind in
+    left-as-is l.invariant (given-end _ _ (none-at _ l.from _ c.record_at-in-loop-kind.ensures c.in_default-record_at.keys2))
 
 -- in a turn that goes on, a whole record is at each place
 here : (c : In-Whole-record_at)
@@ -27,8 +25,6 @@ here c =
     (at_place _ _ c.record_at.ensures c.in-Whole.is, at_place _ _ c.record_at-in-loop-kind.ensures c.in-Whole-record_at.is)
 
 pub loop-kind-preserved : goal.loop-kind-preserved
-loop-kind-preserved c tie.Need-loop-preserved invariant-loop decreases-loop loop-again c =
-    let fill = c.before.before in
-    let told = fill.before.before.before in
-    let l = told.before.before.before.before.before.before.before.before.before.loop in
-    turn (here told).0 (here told).1 fill.fill-pair.ensures fill.fill-pair.auto.1.0 l.invariant
+loop-kind-preserved c =
+    let l = c.loop-kind in
+    turn (here (goal.at.loop-kind-preserved c).In-Whole-record_at).0 (here (goal.at.loop-kind-preserved c).In-Whole-record_at).1 c.fill_pair.ensures c.fill_pair.auto.1.0 l.invariant

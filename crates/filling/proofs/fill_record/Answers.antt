@@ -10,16 +10,10 @@ use Rattle.filling.proofs.fill_record.Goals as goal
 
 pub returns-then-kind-eq-KIND : goal.returns-then-kind-eq-KIND
 unfolding filled_record body_length total field
-returns-then-kind-eq-KIND c tie.Need-returns unfolding filled_record body_length total field returns c =
-    let copy = c.before.before in
-    let dwell = copy.before.before in
-    let start = dwell.before.before.before in
-    filled-as 3 dwell_body_widths 27 32 start.args.older.now start.args.newer.now start.requires.0 start.requires.1 dwell.if1.true (omega arith) (omega arith) refl refl copy.copy2.ensures
+returns-then-kind-eq-KIND c =
+    filled-as 3 dwell_body_widths 27 32 c.args.older.now c.args.newer.now c.requires.0 c.requires.1 c.if-kind-eq-KIND.true (omega arith) (omega arith) refl refl c.copy2.ensures
 
 pub returns-then-kind-eq-KIND-2 : goal.returns-then-kind-eq-KIND-2
 unfolding filled_record body_length total field
-returns-then-kind-eq-KIND-2 c tie.Need-returns-2 unfolding filled_record body_length total field returns-2 c =
-    let copy = c.before.before in
-    let job = copy.before.before in
-    let start = job.before.before.before.before in
-    filled-as 8 job_body_widths 26 29 start.args.older.now start.args.newer.now start.requires.0 start.requires.1 job.if2.true (omega arith) (omega arith) refl refl copy.copy1.ensures
+returns-then-kind-eq-KIND-2 c =
+    filled-as 8 job_body_widths 26 29 c.args.older.now c.args.newer.now c.requires.0 c.requires.1 c.if-kind-eq-KIND-2.true (omega arith) (omega arith) refl refl c.copy1.ensures

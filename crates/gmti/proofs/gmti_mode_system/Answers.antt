@@ -5,7 +5,6 @@ use Rattle.modes.specs.Modes.{number_of, system_of}
 use Rattle.gmti.proofs.gmti_mode_system.Goals as goal
 
 pub returns : goal.returns
-returns c tie.Need-returns returns c =
-    let system = c.before in
-    let found = system.before.mode-system.ensures.0 in
-    (c.number_of_lem.ensures ∙ ap number_of found, system.system-of.ensures ∙ ap system_of found)
+returns c =
+    let found = c.mode_system-l.ensures.0 in
+    (c.number_of_lem.ensures ∙ ap number_of found, c.system_of.ensures ∙ ap system_of found)

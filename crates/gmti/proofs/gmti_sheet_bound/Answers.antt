@@ -3,4 +3,4 @@
 use Rattle.gmti.proofs.gmti_sheet_bound.Goals as goal
 
 pub returns : goal.returns
-returns c tie.Need-returns returns c = c.sheet-bound.ensures
+returns c = c.sheet_bound.ensures

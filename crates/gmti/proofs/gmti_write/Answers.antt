@@ -5,7 +5,7 @@ use Rattle.gmti.proofs.Outcomes.{outcome_fits, outcome-parts}
 use Rattle.gmti.proofs.gmti_write.Goals as goal
 
 pub put_numbers-requires : goal.put_numbers-requires
-put_numbers-requires c tie.Need-put-numbers-requires put-numbers-requires c = outcome_fits _ _ _ c.before.before.before.write.ensures (write-numbers-fit _ _)
+put_numbers-requires c = outcome_fits _ _ _ c.write.ensures (write-numbers-fit _ _)
 
 pub returns : goal.returns
-returns c tie.Need-returns returns c = outcome-parts _ _ _ c.before.before.before.before.write.ensures _ c.put-numbers.ensures
+returns c = outcome-parts _ _ _ c.write.ensures _ c.put_numbers.ensures

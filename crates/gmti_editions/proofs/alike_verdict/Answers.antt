@@ -18,9 +18,9 @@ abbrev verdict_at : Start → Verdict
 verdict_at c = alike_verdict c.args.l.now c.args.s c.args.d c.args.t c.args.n c.args.a c.args.older.now c.args.newer.now c.args.buffer.now
 
 pub returns-then-s-segments : goal.returns-then-s-segments
-returns-then-s-segments c tie.Need-returns returns c =
-    let x = c.before.before.before.before.before.before.before.before.args in
-    let a = c.before.before.a.given in
+returns-then-s-segments c =
+    let x = c.args in
+    let a = c.a-1.given in
     other-counts x.l.now x.s x.d x.t x.n x.a x.older.now x.newer.now x.buffer.now a.0.0 a.0.1.0 a.0.1.1.0 a.0.1.1.1.0 a.1
     (⊎_elim
     (λ w. simp (ne_eqb x.s a.0.0 w.taken))
@@ -29,22 +29,20 @@ returns-then-s-segments c tie.Need-returns returns c =
     (⊎_elim
     (λ w. simp (not-true (eqb x.t a.0.1.1.0) w.2.taken, and-false))
     (λ w. simp (not-true (eqb x.n a.0.1.1.1.0) w.3.taken, and-false))))
-    c.if1.branch)
+    c.then-s-segments.branch)
 
 pub slice_bounds-is_alike-end-in-Accepted : goal.slice_bounds-is_alike-end-in-Accepted
-slice_bounds-is_alike-end-in-Accepted c tie.Need-slice-aggregate-is-alike slice-aggregate-is-alike c =
-    let start = c.before.before.before.before.before.before.before.before.before.before.before.before in
-    sym (length-take-le start.args.n start.args.older.now start.requires.0)
+slice_bounds-is_alike-end-in-Accepted c =
+    sym (length-take-le c.args.n c.args.older.now c.requires.0)
 
 pub slice_bounds-is_alike-end-in-Accepted-2 : goal.slice_bounds-is_alike-end-in-Accepted-2
-slice_bounds-is_alike-end-in-Accepted-2 c tie.Need-slice-aggregate-is-alike-2 slice-aggregate-is-alike-2 c =
-    let start = c.before.before.before.before.before.before.before.before.before.before.before.before.before in
-    sym (length-take-le start.args.n start.args.newer.now start.requires.1)
+slice_bounds-is_alike-end-in-Accepted-2 c =
+    sym (length-take-le c.args.n c.args.newer.now c.requires.1)
 
 pub returns-in-Refused : goal.returns-in-Refused
-returns-in-Refused c tie.Need-returns-2 returns-2 c =
-    let x = c.before.before.before.before.before.before.args in
-    let a = c.enum_told.given in
+returns-in-Refused c =
+    let x = c.args in
+    let a = c.enum_told-1.given in
     alike-refused x.l.now x.s x.d x.t x.n x.a x.older.now x.newer.now x.buffer.now a.0.0 a.0.1.0 a.0.1.1.0 a.1
 
 -- the verdict where the counts and the length are the same
@@ -62,7 +60,7 @@ alike_is c =
     c.is_alike.result c.is_alike.ensures
 
 pub returns-then-is_alike : goal.returns-then-is_alike
-returns-then-is_alike c tie.Need-returns-3 returns-3 c = ap (λ (b c Bool). cond b Alike Broken) (sym c.if5.true) ∙ alike_is c.before.before.before.before.before
+returns-then-is_alike c = ap (λ (b : Bool). cond b Alike Broken) (sym c.if-is_alike.true) ∙ alike_is (goal.at.returns-then-is_alike c).After-is_alike
 
 pub returns-else-is_alike : goal.returns-else-is_alike
-returns-else-is_alike c tie.Need-returns-4 returns-4 c = ap (λ (b c Bool). cond b Alike Broken) (sym c.if5.false) ∙ alike_is c.before.before.before.before.before
+returns-else-is_alike c = ap (λ (b : Bool). cond b Alike Broken) (sym c.if-is_alike.false) ∙ alike_is (goal.at.returns-else-is_alike c).After-is_alike

@@ -24,26 +24,23 @@ faulty : (c : In_default) → c.fault-f.result ≡ Nothing → ⊥
 faulty c e = miss (1 ∷ 2 ∷ 3 ∷ 4 ∷ 5 ∷ []) 0 tt (rw e at c.in_default.keys2)
 
 pub slice_bounds-put_unread-end : goal.slice_bounds-put_unread-end
-slice_bounds-put_unread-end c tie.Need-slice-aggregate-put-unread slice-aggregate-put-unread c = sym (named c.before.before.before.before)
+slice_bounds-put_unread-end c = sym (named (goal.at.slice_bounds-put_unread-end c).After-find-name)
 
 pub put_unread-requires : goal.put_unread-requires
-put_unread-requires c tie.Need-put-unread-requires put-unread-requires c = omega (arith, named c.before.before.before.before, c.before.before.before.before.find.ensures.1.1, c.before.before.before.before.before.before.before.before.before.before.before.requires.1.1)
+put_unread-requires c = omega (arith, named (goal.at.put_unread-requires c).After-find-name, c.find-name.ensures.1.1, c.requires.1.1)
 
 pub returns-in_default : goal.returns-in_default
-returns-in_default c tie.Need-returns returns c =
-    let start = c.before.before.before.before.before.before.before.before.before.before.before.before.before.before in
-    let put = c.before.before.put-unread in
-    let said = fault-said start.args.line.now start.args.older.now start.args.newer.now start.args.buffer.now c.before.before.before.before.before.before.fault.ensures (found c.before.before.before.before.before.before.before) (faulty c.before.before.before.before.before) in
+returns-in_default c =
+    let put = c.put_unread in
+    let said = fault-said c.args.line.now c.args.older.now c.args.newer.now c.args.buffer.now c.fault-f.ensures (found (goal.at.returns-in_default c).After-find-name) (faulty (goal.at.returns-in_default c).In_default) in
     rw said put.ensures
 
 pub put_packet-requires : goal.put_packet-requires
-put_packet-requires c tie.Need-put-packet-requires put-packet-requires c =
-    let start = c.before.before.before.before.before.before.before.before.before.before.before.before.before.before.before in
-    ((found c.before.before.before.before.before.before.before.before, fault-nothing start.args.line.now (sym c.before.before.before.before.before.before.before.fault.ensures ∙ c.before.before.before.before.before.enum_told.given.1)), (start.requires.0, (start.requires.1.0, start.requires.1.1)))
+put_packet-requires c =
+    ((found (goal.at.put_packet-requires c).After-find-name, fault-nothing c.args.line.now (sym c.fault-f.ensures ∙ c.in-Nothing.is)), (c.requires.0, (c.requires.1.0, c.requires.1.1)))
 
 pub returns : goal.returns
-returns c tie.Need-returns-2 returns-2 c =
-    let start = c.before.before.before.before.before.before.before.before.before.before.before.before.before.before.before.before.before.before.before.before.before.before.before.before.before.before in
-    let put = c.before.before.before.before.before.before.before.before.before.before.put-packet in
-    let said = nothing_said start.args.line.now start.args.older.now start.args.newer.now start.args.buffer.now c.before.before.before.before.before.before.before.before.before.before.before.before.before.before.before.before.before.before.fault.ensures c.before.before.before.before.before.before.before.before.before.before.before.before.before.before.before.before.enum_told.given.1 in
+returns c =
+    let put = c.put_packet in
+    let said = nothing_said c.args.line.now c.args.older.now c.args.newer.now c.args.buffer.now c.fault-f.ensures c.in-Nothing.is in
     rw said put.ensures

@@ -16,16 +16,16 @@ within : (c : Start) → c.args.name ≤ length c.args.line.now
 within c = omega (arith, c.requires, before-le 58 c.args.line.now)
 
 pub is_colon-requires : goal.is_colon-requires
-is_colon-requires c tie.Need-is-colon-requires is-colon-requires c = within c.before
+is_colon-requires c = within (goal.at.is_colon-requires c).Start
 
 pub returns-then-not-is_colon : goal.returns-then-not-is_colon
-returns-then-not-is_colon c tie.Need-returns returns c = sym (fault-form c.before.before.before.args.line.now c.before.before.before.requires (sym c.before.is-colon.ensures ∙ not-true _ c.if1.true))
+returns-then-not-is_colon c = sym (fault-form c.args.line.now c.requires (sym c.is_colon.ensures ∙ not-true _ c.if-not-is_colon.true-raw))
 
 pub further-hex-requires : goal.further-hex-requires
-further-hex-requires c tie.Need-further-requires further-requires c = within c.before.before.before
+further-hex-requires c = within (goal.at.further-hex-requires c).Start
 
 pub returns : goal.returns
-returns c tie.Need-returns-2 returns-2 c =
-    let line = c.before.before.before.before.before.before.args.line.now in
-    let colon = fault-hex line c.before.before.before.before.before.before.requires (sym c.before.before.before.before.is-colon.ensures ∙ not-false _ c.before.before.before.if1.false) in
-    c.hex-fault.ensures ∙ ap hex_fault (hex-from line c.before.before.before.before.before.before.requires c.before.before.further.ensures.0) ∙ sym colon
+returns c =
+    let line = c.args.line.now in
+    let colon = fault-hex line c.requires (sym c.is_colon.ensures ∙ not-false _ c.if-not-is_colon.false-raw) in
+    c.hex_fault.ensures ∙ ap hex_fault (hex-from line c.requires c.further-hex.ensures.0) ∙ sym colon

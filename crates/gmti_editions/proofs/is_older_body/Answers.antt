@@ -14,33 +14,25 @@ abbrev places : ℕ → List ℕ → ℕ → Bool
 places kind newer = is_withheld_in (record { kind = kind; body = newer })
 
 pub returns-then-older_byte-older : goal.returns-then-older_byte-older
-returns-then-older_byte-older c tie.Need-returns invariant-loop decreases-loop returns c =
-    let byte = c.before.before in
-    let l = byte.before.before.before in
-    let s = l.before.before.before in
-    let newer = s.args.newer.now in
-    let within = byte.before.before.loop-test.true in
-    byte-differs (places s.args.kind newer) newer s.args.older.now l.loop.i (omega (arith, l.loop.invariant.0, within)) (omega (arith, s.requires, l.loop.invariant.0, within)) (byte.older-byte.ensures newer) c.if1.true
-    ∙ l.loop.invariant.2
+returns-then-older_byte-older c =
+    let newer = c.args.newer.now in
+    let within = c.loop-i-test.true in
+    byte-differs (places c.args.kind newer) newer c.args.older.now c.loop-i.i (omega (arith, c.loop-i.invariant.0, within)) (omega (arith, c.requires, c.loop-i.invariant.0, within)) (c.older_byte.ensures newer) c.if-older_byte-older.true
+    ∙ c.loop-i.invariant.2
 
 pub loop-i-preserved : goal.loop-i-preserved
-loop-i-preserved c tie.Need-loop-preserved invariant-loop decreases-loop loop-again c =
-    let byte = c.before.before in
-    let l = byte.before.before.before in
-    let s = l.before.before.before in
-    let newer = s.args.newer.now in
-    let within = byte.before.before.loop-test.true in (
-      l.loop.invariant.0,
-      omega (arith, l.loop.invariant.0, within),
-      byte-same (places s.args.kind newer) newer s.args.older.now l.loop.i (omega (arith, l.loop.invariant.0, within)) (omega (arith, s.requires, l.loop.invariant.0, within)) (byte.older-byte.ensures newer) c.if1.false
-          ∙ l.loop.invariant.2,
+loop-i-preserved c =
+    let newer = c.args.newer.now in
+    let within = c.loop-i-test.true in (
+      c.loop-i.invariant.0,
+      omega (arith, c.loop-i.invariant.0, within),
+      byte-same (places c.args.kind newer) newer c.args.older.now c.loop-i.i (omega (arith, c.loop-i.invariant.0, within)) (omega (arith, c.requires, c.loop-i.invariant.0, within)) (c.older_byte.ensures newer) c.if-older_byte-older.false
+          ∙ c.loop-i.invariant.2,
     )
 
 pub returns : goal.returns
-returns c tie.Need-returns-2 invariant-loop decreases-loop returns-2 c =
-    let l = c.before in
-    let s = l.before.before.before in
-    let newer = s.args.newer.now in
-    let end = c.loop-test.false in
-    body_end (places s.args.kind newer) newer s.args.older.now l.loop.i (omega (arith, l.loop.invariant.0, end)) (omega (arith, s.requires, l.loop.invariant.0, end))
-    ∙ l.loop.invariant.2
+returns c =
+    let newer = c.args.newer.now in
+    let end = c.loop-i-test.false in
+    body_end (places c.args.kind newer) newer c.args.older.now c.loop-i.i (omega (arith, c.loop-i.invariant.0, end)) (omega (arith, c.requires, c.loop-i.invariant.0, end))
+    ∙ c.loop-i.invariant.2

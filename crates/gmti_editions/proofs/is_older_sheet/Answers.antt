@@ -6,8 +6,8 @@ use Rattle.gmti_editions.proofs.is_older_sheet.Goals as goal
 
 pub returns-then-is_version_3 : goal.returns-then-is_version_3
 unfolding is_older_sheet
-returns-then-is_version_3 c tie.Need-returns unfolding is_older_sheet returns c = rw (sym c.before.before.is-version-3.ensures ∙ c.before.if1.true) c.is-withheld-sheet.ensures
+returns-then-is_version_3 c = rw (sym c.is_version_3.ensures ∙ c.if-is_version_3.true) c.is_withheld_sheet.ensures
 
 pub returns-else-is_version_3 : goal.returns-else-is_version_3
 unfolding is_older_sheet
-returns-else-is_version_3 c tie.Need-returns-2 unfolding is_older_sheet returns-2 c = rw (sym c.before.before.is-version-3.ensures ∙ c.before.if1.false) c.same.ensures
+returns-else-is_version_3 c = rw (sym c.is_version_3.ensures ∙ c.if-is_version_3.false) c.same.ensures

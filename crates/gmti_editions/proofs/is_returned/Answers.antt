@@ -12,32 +12,32 @@ use Rattle.gmti_editions.proofs.Cases.{returned-refused, returned-other, returne
 use Rattle.gmti_editions.proofs.is_returned.Goals as goal
 
 pub returns-then-s-segments : goal.returns-then-s-segments
-returns-then-s-segments c tie.Need-returns returns c =
-    let x = c.before.before.before.before.before.before.args in
-    let a = c.before.before.a.given in
+returns-then-s-segments c =
+    let x = c.args in
+    let a = c.a-1.given in
     returned-other x.l.now x.s x.d x.t x.a x.buffer.now a.0.0 a.0.1.0 a.0.1.1.0 a.0.1.1.1.0 a.1
     (⊎_elim
     (λ w. simp (ne_eqb x.s a.0.0 w.taken))
     (⊎_elim
     (λ w. simp (not-true (eqb x.d a.0.1.0) w.1.taken, and-false))
     (λ w. simp (not-true (eqb x.t a.0.1.1.0) w.2.taken, and-false)))
-    c.if1.branch)
+    c.then-s-segments.branch)
 
 pub returns-in-Refused : goal.returns-in-Refused
-returns-in-Refused c tie.Need-returns-2 returns-2 c =
-    let x = c.before.before.before.before.args in
-    let a = c.enum_told.given in
+returns-in-Refused c =
+    let x = c.args in
+    let a = c.enum_told-1.given in
     returned-refused x.l.now x.s x.d x.t x.a x.buffer.now a.0.0 a.0.1.0 a.0.1.1.0 a.1
 
 pub returns-else-t-targets : goal.returns-else-t-targets
-returns-else-t-targets c tie.Need-returns-3 returns-3 c =
-    let x = c.before.before.before.before.before.before.before.before.before.before.args in
-    let a = c.before.before.before.before.before.before.a.given in
+returns-else-t-targets c =
+    let x = c.args in
+    let a = c.a-1.given in
     c.same.ensures
-    ∙ ap (λ (y c List ℕ). is_same y x.l.now) c.before.front.ensures
+    ∙ ap (λ (y : List ℕ). is_same y x.l.now) c.front.ensures
     ∙ returned-same x.l.now x.s x.d x.t x.a x.buffer.now a.0.0 a.0.1.0 a.0.1.1.0 a.0.1.1.1.0 a.1
     (simp (
-      eq-eqb x.s a.0.0 c.before.before.before.before.if1.false,
-      not-false (eqb x.d a.0.1.0) c.before.before.before.if2.false,
-      not-false (eqb x.t a.0.1.1.0) c.before.before.if3.false,
+      eq-eqb x.s a.0.0 c.if-s-segments.false,
+      not-false (eqb x.d a.0.1.0) c.if-d-dwells.false-raw,
+      not-false (eqb x.t a.0.1.1.0) c.if-t-targets.false-raw,
     ))

@@ -20,8 +20,8 @@ three x = go (eqb x 51) refl
 
 pub returns-then-packet-gt0 : goal.returns-then-packet-gt0
 unfolding version
-returns-then-packet-gt0 c tie.Need-returns unfolding version returns c = three (get_or c.before.before.args.packet.now 0 0)
+returns-then-packet-gt0 c = three (get_or c.args.packet.now 0 0)
 
 pub returns-else-packet-gt0 : goal.returns-else-packet-gt0
 unfolding version
-returns-else-packet-gt0 c tie.Need-returns-2 unfolding version returns-2 c = let l = c.before.args.packet.now in rw (le-ltb 0 (length l) c.if1.false, get_or-eq_default l 0 {n = 0} c.if1.false)
+returns-else-packet-gt0 c = let l = c.args.packet.now in rw (le-ltb 0 (length l) c.if-packet-gt0.false, get_or-eq_default l 0 {n = 0} c.if-packet-gt0.false)

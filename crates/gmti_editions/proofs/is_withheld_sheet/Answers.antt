@@ -15,20 +15,19 @@ use Rattle.gmti_editions.proofs.is_withheld_sheet.Goals as goal
 use Rattle.gmti_editions.proofs.is_withheld_sheet.Goals.{In-Whole}
 
 pub returns-then-older-newer : goal.returns-then-older-newer
-returns-then-older-newer c tie.Need-returns invariant-loop decreases-loop returns c = let a = c.before.before.before.args in other_length a.older.now a.newer.now c.if1.true
+returns-then-older-newer c = let a = c.args in other_length a.older.now a.newer.now c.if-older-newer.true
 
 pub loop-kind-init : goal.loop-kind-init
 unfolding is_withheld_sheet
-loop-kind-init c tie.Need-loop-init invariant-loop decreases-loop unfolding is_withheld_sheet loop-holds c = record { within = omega arith; rest = refl }
+loop-kind-init c = record { within = omega arith; rest = refl }
 
 pub returns-in_default : goal.returns-in_default
-returns-in_default c tie.Need-returns-2 invariant-loop decreases-loop returns-2 c =
-    let end = c.before.before.before in
-    let l = end.before.before.loop in
-    let a = end.before.before.before.before.before.before.args in
-    let none = none-withheld a.newer.now l.at (none-at a.newer.now l.at _ end.before.record-at.ensures end.match.keys2) in
+returns-in_default c =
+    let l = c.loop-kind in
+    let a = c.args in
+    let none = none-withheld a.newer.now l.at (none-at a.newer.now l.at _ c.record_at.ensures c.in_default.keys2) in
     c.same.ensures
-    ∙ ap₂ (λ (x y c List ℕ). is_same x y) (tail-is l.at a.newer.now ∙ sym none) (tail-is l.at a.older.now)
+    ∙ ap₂ (λ (x y : List ℕ). is_same x y) (tail-is l.at a.newer.now ∙ sym none) (tail-is l.at a.older.now)
     ∙ l.invariant.rest
 
 -- in a turn that goes on, a whole record is at the place
@@ -46,21 +45,15 @@ module _ (c : In-Whole) where
   here = at_place _ _ c.record_at.ensures c.in-Whole.is
 
 pub returns-then-kind-older : goal.returns-then-kind-older
-returns-then-kind-older c tie.Need-returns-3 invariant-loop decreases-loop returns-3 c = let w = c.before.before in kind-differs (here w) (older w) (same w) c.if2.true ∙ (place w).loop.invariant.rest
+returns-then-kind-older c = kind-differs (here (goal.at.returns-then-kind-older c).In-Whole) (older (goal.at.returns-then-kind-older c).In-Whole) (same (goal.at.returns-then-kind-older c).In-Whole) c.if-kind-older.true ∙ (place (goal.at.returns-then-kind-older c).In-Whole).loop.invariant.rest
 
 pub returns-then-not-is_older_body : goal.returns-then-not-is_older_body
-returns-then-not-is_older_body c tie.Need-returns-4 invariant-loop decreases-loop returns-4 c =
-    let body = c.before in
-    let kind = body.before.before.before in
-    let w = kind.before.before in
-    body-differs (here w) (older w) (same w) kind.if2.false body.is-older-body.ensures (not-true _ c.if3.true) ∙ (place w).loop.invariant.rest
+returns-then-not-is_older_body c =
+    body-differs (here (goal.at.returns-then-not-is_older_body c).In-Whole) (older (goal.at.returns-then-not-is_older_body c).In-Whole) (same (goal.at.returns-then-not-is_older_body c).In-Whole) c.if-kind-older.false c.is_older_body.ensures (not-true _ c.if-not-is_older_body.true-raw) ∙ (place (goal.at.returns-then-not-is_older_body c).In-Whole).loop.invariant.rest
 
 pub loop-kind-preserved : goal.loop-kind-preserved
-loop-kind-preserved c tie.Need-loop-preserved invariant-loop decreases-loop loop-again c =
-    let body = c.before in
-    let kind = body.before.before.before in
-    let w = kind.before.before in
+loop-kind-preserved c =
     record {
-      within = (here w).ranges;
-      rest = record_same (here w) (older w) (same w) kind.if2.false body.is-older-body.ensures (not-false _ c.if3.false) ∙ (place w).loop.invariant.rest;
+      within = (here (goal.at.loop-kind-preserved c).In-Whole).ranges;
+      rest = record_same (here (goal.at.loop-kind-preserved c).In-Whole) (older (goal.at.loop-kind-preserved c).In-Whole) (same (goal.at.loop-kind-preserved c).In-Whole) c.if-kind-older.false c.is_older_body.ensures (not-false _ c.if-not-is_older_body.false-raw) ∙ (place (goal.at.loop-kind-preserved c).In-Whole).loop.invariant.rest;
     }

@@ -6,8 +6,8 @@ use Rattle.gmti_editions.proofs.new_in.Goals as goal
 
 pub returns-then-is_version_3 : goal.returns-then-is_version_3
 unfolding new_in
-returns-then-is_version_3 c tie.Need-returns unfolding new_in returns c = rw (sym c.before.before.is-version-3.ensures ∙ c.before.if1.true) c.first-new.ensures
+returns-then-is_version_3 c = rw (sym c.is_version_3.ensures ∙ c.if-is_version_3.true) c.first_new.ensures
 
 pub returns-else-is_version_3 : goal.returns-else-is_version_3
 unfolding new_in
-returns-else-is_version_3 c tie.Need-returns-2 unfolding new_in returns-2 c = rw (sym c.before.is-version-3.ensures ∙ c.if1.false)
+returns-else-is_version_3 c = rw (sym c.is_version_3.ensures ∙ c.if-is_version_3.false)

@@ -8,30 +8,30 @@ use Rattle.gmti_editions.proofs.Cases.{new-accepted, new-refused}
 use Rattle.gmti_editions.proofs.new_verdict.Goals as goal
 
 pub returns-then-number-ne15 : goal.returns-then-number-ne15
-returns-then-number-ne15 c tie.Need-returns returns c =
-    let x = c.before.before.before.before.args in
-    let a = c.before.before.a.given in
+returns-then-number-ne15 c =
+    let x = c.args in
+    let a = c.a-1.given in
     new-refused x.segment x.field x.a a.0.0 a.0.1.0 a.0.1.1.0 a.1 false
     (⊎_elim
     (λ w. simp (ne_eqb a.0.0 15 w.taken))
     (⊎_elim
     (λ w. simp (not-true (eqb a.0.1.0 x.segment) w.1.taken, and-false))
     (λ w. simp (not-true (eqb a.0.1.1.0 x.field) w.2.taken, and-false)))
-    c.if1.branch)
+    c.then-number-ne15.branch)
 
 pub returns-in-Accepted : goal.returns-in-Accepted
-returns-in-Accepted c tie.Need-returns-2 returns-2 c =
-    let x = c.before.before.args in
-    let a = c.enum_told.given in
+returns-in-Accepted c =
+    let x = c.args in
+    let a = c.enum_told-1.given in
     new-accepted x.segment x.field x.a a.0.0 a.0.1.0 a.0.1.1.0 a.0.1.1.1.0 a.1
 
 pub returns-else-its_field-field : goal.returns-else-its_field-field
-returns-else-its_field-field c tie.Need-returns-3 returns-3 c =
-    let x = c.before.before.before.before.before.before.args in
-    let a = c.before.before.before.before.a.given in
+returns-else-its_field-field c =
+    let x = c.args in
+    let a = c.a-1.given in
     new-refused x.segment x.field x.a a.0.0 a.0.1.0 a.0.1.1.0 a.1 true
     (simp (
-      eq-eqb a.0.0 15 c.before.before.if1.false,
-      not-false (eqb a.0.1.0 x.segment) c.before.if2.false,
-      not-false (eqb a.0.1.1.0 x.field) c.if3.false,
+      eq-eqb a.0.0 15 c.if-number-ne15.false,
+      not-false (eqb a.0.1.0 x.segment) c.if-its_segment-segment.false-raw,
+      not-false (eqb a.0.1.1.0 x.field) c.if-its_field-field.false-raw,
     ))

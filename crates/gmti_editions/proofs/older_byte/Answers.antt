@@ -4,7 +4,7 @@ use mathlib.Core.Path.{sym, ◌∙◌}
 use Rattle.gmti_editions.proofs.older_byte.Goals as goal
 
 pub returns-then-is_withheld_in : goal.returns-then-is_withheld_in
-returns-then-is_withheld_in c tie.Need-returns returns c b = rw (sym (c.before.is-withheld-in.ensures b) ∙ c.if1.true)
+returns-then-is_withheld_in c b = rw (sym (c.is_withheld_in.ensures b) ∙ c.if-is_withheld_in.true)
 
 pub returns-else-is_withheld_in : goal.returns-else-is_withheld_in
-returns-else-is_withheld_in c tie.Need-returns-2 returns-2 c b = rw (sym (c.before.is-withheld-in.ensures b) ∙ c.if1.false)
+returns-else-is_withheld_in c b = rw (sym (c.is_withheld_in.ensures b) ∙ c.if-is_withheld_in.false)

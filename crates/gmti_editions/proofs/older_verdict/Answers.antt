@@ -6,18 +6,13 @@ use Rattle.gmti_editions.proofs.Cases.{older-nothing, older-found}
 use Rattle.gmti_editions.proofs.older_verdict.Goals as goal
 
 pub returns-in-Nothing : goal.returns-in-Nothing
-returns-in-Nothing c tie.Need-returns returns c =
-    let alike = c.before.before.before.before in
-    let nothing = alike.before.before.before in
-    let new = nothing.before.before in
-    let x = new.before.before.before.before.before.args in
+returns-in-Nothing c =
+    let x = c.args in
     older-nothing x.l.now x.s x.d x.t x.n x.a x.older.now x.newer.now x.buffer.now (new_in x.l.now)
-    (sym new.new_in.ensures ∙ nothing.enum_told.given.1) alike.alike-verdict.ensures
+    (sym c.new_in.ensures ∙ c.in-Nothing.is) c.alike_verdict.ensures
 
 pub returns-in-Found : goal.returns-in-Found
-returns-in-Found c tie.Need-returns-2 returns-2 c =
-    let found = c.before.before in
-    let new = found.before.before in
-    let x = new.before.before.before.before.before.args in
+returns-in-Found c =
+    let x = c.args in
     older-found x.l.now x.s x.d x.t x.n x.a x.older.now x.newer.now x.buffer.now (new_in x.l.now) _ _
-    (sym new.new_in.ensures ∙ found.segment.given.1) c.new-verdict.ensures
+    (sym c.new_in.ensures ∙ c.in-Found.is) c.new_verdict.ensures

@@ -9,13 +9,13 @@ use Rattle.gmti_editions.proofs.Said.{not-read, new, alike, broken, under}
 use Rattle.gmti_editions.proofs.put_judged.Goals as goal
 
 pub shape_of-o-in-Alike : goal.shape_of-o-in-Alike
-shape_of-o-in-Alike c tie.Need-returns returns c = let put = c.before.before.put-answer in under c.before.before.before.before.before.before.before.args.o.now c.before.before.before.before.before.before.before.args.at (not-read c.before.before.before.before.before.before.before.args.j.newer c.before.before.before.before.before.before.before.args.j.older c.before.before.before.before.enum_told.given.1) (omega (arith, put.ensures.0.1)) (put.ensures.0.0, put.ensures.1)
+shape_of-o-in-Alike c = let put = c.put_answer in under c.args.o.now c.args.at (not-read c.args.j.newer c.args.j.older c.enum_told-1.given.1) (omega (arith, put.ensures.0.1)) (put.ensures.0.0, put.ensures.1)
 
 pub shape_of-o-in-Broken : goal.shape_of-o-in-Broken
-shape_of-o-in-Broken c tie.Need-returns-2 returns-2 c =
-    let put = c.before.before.put-answer2 in
-    under c.before.before.before.before.before.before.before.before.before.before.before.before.args.o.now c.before.before.before.before.before.before.before.before.before.before.before.before.args.at (new c.before.before.before.before.before.before.before.before.before.before.before.before.args.j.newer c.before.before.before.before.before.before.before.before.before.before.before.before.args.j.older c.before.before.before.before.before.before.before.before.before.enum-told2.given.1) (omega (arith, put.ensures.0.1))
-    (laid-join (110 ∷ 101 ∷ 119 ∷ 32 ∷ []) (answer_text c.before.before.before.before.before.before.before.before.before.before.before.before.args.j.older) c.before.before.before.before.before.before.before.before.before.before.before.before.args.o.now c.before.before.before.before.before.before.before.before.before.before.before.before.args.at (refl, c.before.before.before.before.before.before.copy-all.ensures) (put.ensures.0.0, put.ensures.1))
+shape_of-o-in-Broken c =
+    let put = c.put_answer-in-New in
+    under c.args.o.now c.args.at (new c.args.j.newer c.args.j.older c.enum_told-in-New-1.given.1) (omega (arith, put.ensures.0.1))
+    (laid-join (110 ∷ 101 ∷ 119 ∷ 32 ∷ []) (answer_text c.args.j.older) c.args.o.now c.args.at (refl, c.copy_all.ensures) (put.ensures.0.0, put.ensures.1))
 
 returns-3 : tie.Need-returns-3
 returns-3 c =

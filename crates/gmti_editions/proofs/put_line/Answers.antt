@@ -14,13 +14,12 @@ kept : (c : After-put_judged-q) → length (set c.put_judged-q.new.0 c.put_judge
 kept c = length-set {A = ℕ} c.put_judged-q.new.0 c.put_judged-q.result 10 ∙ c.put_judged-q.auto.0 ∙ c.put_name-p.auto.0
 
 pub shape_of-out : goal.shape_of-out
-shape_of-out c tie.Need-same-length same_length c = kept c.before.before
+shape_of-out c = kept (goal.at.shape_of-out c).After-put_judged-q
 
 pub returns : goal.returns
-returns c tie.Need-returns returns c =
-    let start = c.before.before.before.before.before.before.before.before.before.before in
-    let name = c.before.before.before.before.before.before.put-name in
-    let put = c.before.before.put-judged in
-    let j = start.args.j in
-    let laid = judged-laid start.args.name.now start.args.out.now j.verdict j.newer j.older (label-laid start.args.name.now start.args.out.now name.ensures.0 name.ensures.1) (put.ensures.0.0, put.ensures.1) in
-    ((omega (arith, laid.0), omega (arith, kept c.before.before, put.ensures.0.1, name.ensures.0, start.requires)), laid.1)
+returns c =
+    let name = c.put_name-p in
+    let put = c.put_judged-q in
+    let j = c.args.j in
+    let laid = judged-laid c.args.name.now c.args.out.now j.verdict j.newer j.older (label-laid c.args.name.now c.args.out.now name.ensures.0 name.ensures.1) (put.ensures.0.0, put.ensures.1) in
+    ((omega (arith, laid.0), omega (arith, kept (goal.at.returns c).After-put_judged-q, put.ensures.0.1, name.ensures.0, c.requires)), laid.1)

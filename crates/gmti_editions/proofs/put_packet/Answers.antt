@@ -19,32 +19,30 @@ named : (c : Start) → length (take c.args.name c.args.line.now) ≡ c.args.nam
 named c = length-take-le c.args.name c.args.line.now (within c)
 
 pub further-hex-requires : goal.further-hex-requires
-further-hex-requires c tie.Need-further-requires further-requires c = within c.before.before.before.before.before.before
+further-hex-requires c = within (goal.at.further-hex-requires c).Start
 
 pub unhex-n-requires : goal.unhex-n-requires
-unhex-n-requires c tie.Need-unhex-requires unhex-requires c =
-    let start = c.before.before.before.before.before.before.before.before.before in
-    let line = start.args.line.now in
-    let h = c.before.before.further.result in
-    (ap hex_fault (hex-from line start.requires.0.0 c.before.before.further.ensures.0) ∙ start.requires.0.1, omega (arith, length-take (length line - h) (drop h line), length-drop h line, start.requires.1.0))
+unhex-n-requires c =
+    let line = c.args.line.now in
+    let h = c.further-hex.result in
+    (ap hex_fault (hex-from line c.requires.0.0 c.further-hex.ensures.0) ∙ c.requires.0.1, omega (arith, length-take (length line - h) (drop h line), length-drop h line, c.requires.1.0))
 
 pub slice_bounds-judge-end-2 : goal.slice_bounds-judge-end-2
-slice_bounds-judge-end-2 c tie.Need-slice-aggregate-judge slice-aggregate-judge c = let u = c.before.before.before.unhex in sym (length-take-le u.result u.new.1.0 u.ensures.0.1)
+slice_bounds-judge-end-2 c = let u = c.unhex-n in sym (length-take-le u.result u.new.1.0 u.ensures.0.1)
 
 pub slice_bounds-put_line-end : goal.slice_bounds-put_line-end
-slice_bounds-put_line-end c tie.Need-slice-aggregate-put-line slice-aggregate-put-line c = sym (named c.before.before.before.before.before.before.before.before.before.before.before.before.before.before.before.before.before.before.before.before.before.before.before.before.before)
+slice_bounds-put_line-end c = sym (named (goal.at.slice_bounds-put_line-end c).Start)
 
 pub put_line-requires : goal.put_line-requires
-put_line-requires c tie.Need-put-line-requires put-line-requires c = omega (arith, named c.before.before.before.before.before.before.before.before.before.before.before.before.before.before.before.before.before.before.before.before.before.before.before.before.before, within c.before.before.before.before.before.before.before.before.before.before.before.before.before.before.before.before.before.before.before.before.before.before.before.before.before, c.before.before.before.before.before.before.before.before.before.before.before.before.before.before.before.before.before.before.before.before.before.before.before.before.before.requires.1.1.1)
+put_line-requires c = omega (arith, named (goal.at.put_line-requires c).Start, within (goal.at.put_line-requires c).Start, c.requires.1.1.1)
 
 pub returns : goal.returns
-returns c tie.Need-returns returns c =
-    let start = c.before.before.before.before.before.before.before.before.before.before.before.before.before.before.before.before.before.before.before.before.before.before.before.before.before.before.before.before in
-    let line = start.args.line.now in
-    let put = c.before.before.put-line in
-    let judged = c.before.before.before.before.before.before.before.before.before.before.before.judge in
-    let u = c.before.before.before.before.before.before.before.before.before.before.before.before.before.before.before.before.before.before.unhex in
-    let hex = hex-from line start.requires.0.0 c.before.before.before.before.before.before.before.before.before.before.before.before.before.before.before.before.before.before.before.before.before.further.ensures.0 in
-    let spelt = spelt-front (take (length line - c.before.before.before.before.before.before.before.before.before.before.before.before.before.before.before.before.before.before.before.before.before.further.result) (drop c.before.before.before.before.before.before.before.before.before.before.before.before.before.before.before.before.before.before.before.before.before.further.result line)) start.args.packet.now u.ensures.0.0 (omega (arith, u.ensures.0.1, u.auto.1.0)) u.ensures.1 ∙ ap unhexed hex in
-    let said = packet-said line start.args.older.now start.args.newer.now start.args.buffer.now start.requires.0.0 spelt judged.ensures.0 judged.ensures.1.0.0 judged.ensures.1.0.1 in
+returns c =
+    let line = c.args.line.now in
+    let put = c.put_line in
+    let judged = c.judge-j in
+    let u = c.unhex-n in
+    let hex = hex-from line c.requires.0.0 c.further-hex.ensures.0 in
+    let spelt = spelt-front (take (length line - c.further-hex.result) (drop c.further-hex.result line)) c.args.packet.now u.ensures.0.0 (omega (arith, u.ensures.0.1, u.auto.1.0)) u.ensures.1 ∙ ap unhexed hex in
+    let said = packet-said line c.args.older.now c.args.newer.now c.args.buffer.now c.requires.0.0 spelt judged.ensures.0 judged.ensures.1.0.0 judged.ensures.1.0.1 in
     rw (← said) put.ensures

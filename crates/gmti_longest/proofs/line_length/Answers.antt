@@ -6,10 +6,10 @@ use Rattle.gmti_longest.proofs.Inputs.{digits-none, digits-line, digits-all}
 use Rattle.gmti_longest.proofs.line_length.Goals as goal
 
 pub returns-then-n-eq0 : goal.returns-then-n-eq0
-returns-then-n-eq0 c tie.Need-returns returns c = (digits-none c.before.args.input.now c.if1.true, omega arith)
+returns-then-n-eq0 c = (digits-none c.args.input.now c.if-n-eq0.true, omega arith)
 
 pub returns-then-input-n-eq10 : goal.returns-then-input-n-eq10
-returns-then-input-n-eq10 c tie.Need-returns-2 returns-2 c = (digits-line c.before.before.before.args.input.now (eq-eqb _ 10 c.if2.true), omega arith)
+returns-then-input-n-eq10 c = (digits-line c.args.input.now (eq-eqb _ 10 c.if-input-n-eq10.true), omega arith)
 
 pub returns-else-input-n-eq10 : goal.returns-else-input-n-eq10
-returns-else-input-n-eq10 c tie.Need-returns-3 returns-3 c = (digits-all c.before.before.before.args.input.now (ne_eqb _ 10 c.if2.false), omega arith)
+returns-else-input-n-eq10 c = (digits-all c.args.input.now (ne_eqb _ 10 c.if-input-n-eq10.false), omega arith)

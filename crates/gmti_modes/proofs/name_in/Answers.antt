@@ -13,19 +13,16 @@ read : (c : After-wide) → c.wide.result ≡ get_or c.args.names.now (c.args.sy
 read c = c.wide.ensures.0 ∙ ap (λ (n : ℕ). get_or c.args.names.now (n * 12) 0) c.wide-at.ensures.0
 
 pub bounds-names-at : goal.bounds-names-at
-bounds-names-at c tie.Need-shared-slice-read-wide shared-slice-read-wide c =
-    let start = c.before.before.before in
-    omega (arith, c.before.wide.ensures, name-within start.args.system start.requires.1 start.requires.0)
+bounds-names-at c =
+    omega (arith, c.wide-at.ensures, name-within c.args.system c.requires.1 c.requires.0)
 
 pub slice_bounds-result-end : goal.slice_bounds-result-end
-slice_bounds-result-end c tie.Need-slice-bounds-result-end part-result-end c =
-    let start = c.before.before.before.before in
-    omega (arith, read c, c.before.before.wide.ensures, name-within start.args.system start.requires.1 start.requires.0)
+slice_bounds-result-end c =
+    omega (arith, read (goal.at.slice_bounds-result-end c).After-wide, c.wide-at.ensures, name-within c.args.system c.requires.1 c.requires.0)
 
 pub returns : goal.returns
-returns c tie.Need-returns returns c =
-    let start = c.before.before.before.before.before in
-    let first = c.before.before.before.wide.result * 12 + 1 in
-    let place c first ≡ start.args.system * 12 + 1 = omega (arith, c.before.before.before.wide.ensures) in
-    let long c (first + c.before.wide2.result) - first ≡ get_or start.args.names.now (start.args.system * 12) 0 = omega (arith, read c.before) in
-    name-is start.args.system start.requires.1 start.requires.0 place long
+returns c =
+    let first = c.wide-at.result * 12 + 1 in
+    let place : first ≡ c.args.system * 12 + 1 = omega (arith, c.wide-at.ensures) in
+    let long : (first + c.wide.result) - first ≡ get_or c.args.names.now (c.args.system * 12) 0 = omega (arith, read (goal.at.returns c).After-wide) in
+    name-is c.args.system c.requires.1 c.requires.0 place long

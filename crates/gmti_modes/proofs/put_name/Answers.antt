@@ -13,14 +13,12 @@ use Rattle.gmti_modes.proofs.put_name.Goals as goal
 
 pub put_word-requires : goal.put_word-requires
 unfolding column columns all_names ascii
-put_word-requires c tie.Need-name-in-requires unfolding column columns all_names ascii name-in-requires c = (refl, search rules)
+put_word-requires c = (refl, search rules)
 
 pub shape_of-o : goal.shape_of-o
-shape_of-o c tie.Need-put-word-requires put-word-requires c =
-    let named = c.before in
-    let start = named.before.before.before in
-    let long c length named.name_in.result.now ≡ length (ascii (name_of start.args.system)) = ap length named.name_in.ensures in
-    omega (arith, long, name-short start.args.system start.requires.0, start.requires.1)
+shape_of-o c =
+    let long : length c.name_in-name.result.now ≡ length (ascii (name_of c.args.system)) = ap length c.name_in-name.ensures in
+    omega (arith, long, name-short c.args.system c.requires.0, c.requires.1)
 
 returns : tie.Need-returns
 returns c =

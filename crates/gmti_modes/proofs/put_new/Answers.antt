@@ -7,9 +7,8 @@ use Rattle.gmti_modes.proofs.put_new.Goals as goal
 
 pub returns-else-is_new_mode : goal.returns-else-is_new_mode
 unfolding ascii
-returns-else-is_new_mode c tie.Need-returns unfolding ascii returns c =
-    let test = c.before.before.before.before.before in
-    worded (new-said test.before.is-new-mode.ensures test.if1.true) (omega arith) c.before.before.put_word.ensures
+returns-else-is_new_mode c =
+    worded (new-said c.is_new_mode.ensures c.if-is_new_mode.true) (omega arith) c.put_word.ensures
 
 returns-2 : tie.Need-returns-2
 unfolding ascii

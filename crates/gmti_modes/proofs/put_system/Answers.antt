@@ -11,21 +11,14 @@ use Rattle.gmti_modes.proofs.Said.{worded}
 use Rattle.gmti_modes.proofs.put_system.Goals as goal
 
 pub put_word-requires : goal.put_word-requires
-put_word-requires c tie.Need-put-decimal-requires put-decimal-requires c =
-    let word = c.before.before.before in
-    let name = word.before.before.before.before.before in
-    let start = name.before.before.before in
-    let short = decimal-fits start.args.system (search rules) in
-    omega (arith, short, word.put_word.auto, word.put_word.ensures, name.put-name.auto, name.put-name.ensures, start.requires)
+put_word-requires c =
+    let short = decimal-fits c.args.system (search rules) in
+    omega (arith, short, c.put_word-q.auto, c.put_word-q.ensures, c.put_name-p.auto, c.put_name-p.ensures, c.requires)
 
 pub returns : goal.returns
-returns c tie.Need-put-word-requires-2 put-word-requires-2 c =
-    let number = c.before.before.before.before in
-    let word = number.before.before.before.before in
-    let name = word.before.before.before.before.before in
-    let start = name.before.before.before in
-    let short = decimal-fits start.args.system (search rules) in
-    omega (arith, short, number.put-decimal.auto, number.put-decimal.ensures, word.put_word.auto, word.put_word.ensures, name.put-name.auto, name.put-name.ensures, start.requires)
+returns c =
+    let short = decimal-fits c.args.system (search rules) in
+    omega (arith, short, c.put_decimal-r.auto, c.put_decimal-r.ensures, c.put_word-q.auto, c.put_word-q.ensures, c.put_name-p.auto, c.put_name-p.ensures, c.requires)
 
 returns : tie.Need-returns
 unfolding ascii system_text

@@ -10,11 +10,10 @@ use Rattle.gmti_read.specs.Printed.{printed_of}
 use Rattle.gmti_read.proofs.answer.Goals as goal
 
 pub returns : goal.returns
-returns c tie.Need-returns returns c =
-    let print = c.before.before.print in
-    let read = c.before.before.before.before.before.before.before.read in
-    let start = c.before.before.before.before.before.before.before.before.before.before.before.before in
+returns c =
+    let print = c.print in
+    let read = c.read-a in
     let e = ap printed_of read.ensures in (
-      (print.ensures.0 ∙ ap (λ (l c List ℕ). length l) e, omega (arith, print.ensures.1.1, print.auto.1.1.0, read.auto.1.1.0, start.requires)),
-      print.ensures.1.0 ∙ ap (λ (l c List ℕ). sets start.args.out.now 0 l) e,
+      (print.ensures.0 ∙ ap (λ (l : List ℕ). length l) e, omega (arith, print.ensures.1.1, print.auto.1.1.0, read.auto.1.1.0, c.requires)),
+      print.ensures.1.0 ∙ ap (λ (l : List ℕ). sets c.args.out.now 0 l) e,
     )

@@ -4,13 +4,13 @@ use Rattle.gmti_sheet.proofs.Words.{other_length, names-1, names-3, names-none}
 use Rattle.gmti_sheet.proofs.edition_of.Goals as goal
 
 pub returns-then-word-ne1 : goal.returns-then-word-ne1
-returns-then-word-ne1 c tie.Need-returns returns c = other_length _ c.if1.true
+returns-then-word-ne1 c = other_length _ c.if-word-ne1.true
 
 pub returns-then-letter-eq49 : goal.returns-then-letter-eq49
-returns-then-letter-eq49 c tie.Need-returns-2 returns-2 c = names-1 _ c.before.before.if1.false c.if2.true
+returns-then-letter-eq49 c = names-1 _ c.if-word-ne1.false c.if-letter-eq49.true
 
 pub returns-then-letter-eq51 : goal.returns-then-letter-eq51
-returns-then-letter-eq51 c tie.Need-returns-3 returns-3 c = names-3 _ c.before.before.before.if1.false c.before.if2.false c.if3.true
+returns-then-letter-eq51 c = names-3 _ c.if-word-ne1.false c.if-letter-eq49.false c.if-letter-eq51.true
 
 pub returns-else-letter-eq51 : goal.returns-else-letter-eq51
-returns-else-letter-eq51 c tie.Need-returns-4 returns-4 c = names-none _ c.before.before.before.if1.false c.before.if2.false c.if3.false
+returns-else-letter-eq51 c = names-none _ c.if-word-ne1.false c.if-letter-eq49.false c.if-letter-eq51.false

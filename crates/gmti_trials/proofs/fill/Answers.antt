@@ -7,13 +7,13 @@ use lib.ListN.{length, length-set}
 use Rattle.gmti_trials.proofs.fill.Goals as goal
 
 pub loop-i-init : goal.loop-i-init
-loop-i-init c tie.Need-loop-init invariant-loop decreases-loop loop-holds c = (omega arith, refl, refl)
+loop-i-init c = (omega arith, refl, refl)
 
 pub loop-i-preserved : goal.loop-i-preserved
-loop-i-preserved c tie.Need-loop-preserved invariant-loop decreases-loop loop-again c = (omega arith, c.before.loop.invariant.1, rw length-set c.before.loop.invariant.2)
+loop-i-preserved c = (omega arith, c.loop-i.invariant.1, rw length-set c.loop-i.invariant.2)
 
 pub shape_of-o : goal.shape_of-o
-shape_of-o c tie.Need-same-length invariant-loop decreases-loop same_length c = c.before.loop.invariant.2
+shape_of-o c = c.loop-i.invariant.2
 
 pub returns : goal.returns
-returns c tie.Need-returns invariant-loop decreases-loop returns c = tt
+returns c = tt

@@ -12,7 +12,7 @@ named : (c : tie.After-put-unread-arg2) → length (take c.find-name.result c.ar
 named c = length-take-le c.find-name.result c.args.front.now c.find-name.ensures.1.1
 
 pub slice_bounds-put_unread-end : goal.slice_bounds-put_unread-end
-slice_bounds-put_unread-end c tie.Need-slice-aggregate-put-unread slice-aggregate-put-unread c = sym (named c)
+slice_bounds-put_unread-end c = sym (named (goal.at.slice_bounds-put_unread-end c).After-put-unread-arg2)
 
 pub put_unread-n-requires : goal.put_unread-n-requires
-put_unread-n-requires c tie.Need-put-unread-requires put-unread-requires c = omega (arith, named c, c.before.before.find.ensures.1.1, c.before.before.before.before.before.requires)
+put_unread-n-requires c = omega (arith, named (goal.at.put_unread-n-requires c).After-put-unread-arg2, c.find-name.ensures.1.1, c.requires)

@@ -12,13 +12,13 @@ within : (c : In-Line) → (c.in-Line.from ≤ c.in-Line.to) × (c.in-Line.to �
 within c = line-within c.in-Line.is c.requires.0
 
 pub slice_bounds-answer-count : goal.slice_bounds-answer-count
-slice_bounds-answer-count c tie.Need-overflow-sub-answer sub-answer c = (within c).0
+slice_bounds-answer-count c = (within (goal.at.slice_bounds-answer-count c).In-Line).0
 
 pub slice_bounds-answer-start : goal.slice_bounds-answer-start
-slice_bounds-answer-start c tie.Need-slice-bounds-answer-start part-answer-start c = omega (arith, within c)
+slice_bounds-answer-start c = omega (arith, within (goal.at.slice_bounds-answer-start c).In-Line)
 
 pub slice_bounds-answer-end : goal.slice_bounds-answer-end
-slice_bounds-answer-end c tie.Need-slice-bounds-answer-end part-answer-end c = omega (arith, within c)
+slice_bounds-answer-end c = omega (arith, within (goal.at.slice_bounds-answer-end c).In-Line)
 
 pub answer-n-requires : goal.answer-n-requires
-answer-n-requires c tie.Need-answer-requires answer-requires c = let l = line-length c.before.before.before.before.before.before.before.before.before.before.before.args.input.now (within c.before.before.before.before) in let w = within c.before.before.before.before in let p = c.before.before.before.before.before.before.before.before.before.before.before.requires in (omega (arith, l, w, p), (omega (arith, p), omega (arith, l, w, p)))
+answer-n-requires c = let l = line-length c.args.input.now (within (goal.at.answer-n-requires c).In-Line) in let w = within (goal.at.answer-n-requires c).In-Line in let p = c.requires in (omega (arith, l, w, p), (omega (arith, p), omega (arith, l, w, p)))

@@ -6,4 +6,4 @@ use Rattle.hrr.proofs.each_of.Goals as goal
 
 pub returns : goal.returns
 unfolding total
-returns c tie.Need-returns unfolding total returns c = search rules
+returns c = search rules

@@ -6,4 +6,4 @@ use Rattle.mask.proofs.Bit.{set-or}
 use Rattle.hrr.proofs.faults.Goals as goal
 
 pub returns : goal.returns
-returns c tie.Need-returns returns c n = set-or c.before.missing.result c.common.result n ∙ ap₂ ◌||◌ (c.before.missing.ensures n) (c.common.ensures n)
+returns c n = set-or c.missing.result c.common.result n ∙ ap₂ ◌||◌ (c.missing.ensures n) (c.common.ensures n)

@@ -12,9 +12,9 @@ use Rattle.hrr.proofs.fields_length.Goals as goal
 
 pub returns : goal.returns
 unfolding announced_length total
-returns c tie.Need-returns unfolding announced_length total returns c =
-    let m = c.before.before.before.before.before.args.mask in
-    let before = c.before.before.before.before.length-before-h25.ensures.0 in
+returns c =
+    let m = c.args.mask in
+    let before = c.length_before_h25.ensures.0 in
     let first = four-fields m 25 (widths 25 28) (lit≤ tt) in
     let last = three-fields m 29 (widths 29 31) (lit≤ tt) in
     (omega arith, omega (arith, announced-le m 2 hrr_widths))

@@ -5,4 +5,4 @@ use Rattle.hrr.proofs.Words.{mask_is}
 use Rattle.hrr.proofs.is_mask.Goals as goal
 
 pub returns : goal.returns
-returns c tie.Need-returns returns c = mask_is c.before.args.mask c.faults.result (omega arith) c.faults.ensures
+returns c = mask_is c.args.mask c.faults.result (omega arith) c.faults.ensures

@@ -11,8 +11,8 @@ use Rattle.hrr.proofs.length_before_h25.Goals as goal
 
 pub returns : goal.returns
 unfolding announced_length total
-returns c tie.Need-returns unfolding announced_length total returns c =
-    let m = c.before.before.before.before.before.before.before.before.before.before.before.before.args.mask in
+returns c =
+    let m = c.args.mask in
     let two = four-fields m 2 (widths 2 5) (lit≤ tt) in
     let six = four-fields m 6 (widths 6 9) (lit≤ tt) in
     let ten = four-fields m 10 (widths 10 13) (lit≤ tt) in

@@ -7,4 +7,4 @@ use Rattle.hrr.proofs.mask_of.Goals as goal
 
 pub returns : goal.returns
 unfolding be hrr_mask
-returns c tie.Need-returns unfolding be hrr_mask returns c = omega (arith, c.before.before.get-u32.ensures, c.wide.ensures.0)
+returns c = omega (arith, c.get_u32.ensures, c.wide.ensures.0)

@@ -8,14 +8,14 @@ use Rattle.octets.specs.Octets.{be}
 use Rattle.hrr.proofs.number_if.Goals as goal
 
 pub get_u16-requires : goal.get_u16-requires
-get_u16-requires c tie.Need-get-u16-requires get-u16-requires c = c.before.before.before.requires.2 (sym c.before.has.ensures ∙ c.if1.true)
+get_u16-requires c = c.requires.2 (sym c.has.ensures ∙ c.if-has.true)
 
 pub returns-then-has : goal.returns-then-has
-returns-then-has c tie.Need-returns returns c =
-    let a = c.before.before.before.before.args in
-    (c.get-u16.ensures ∙ sym (ap (λ (t c Bool). cond t (be 2 (drop a.at a.b.now)) 0) (sym c.before.before.has.ensures ∙ c.before.if1.true)), omega arith)
+returns-then-has c =
+    let a = c.args in
+    (c.get_u16.ensures ∙ sym (ap (λ (t : Bool). cond t (be 2 (drop a.at a.b.now)) 0) (sym c.has.ensures ∙ c.if-has.true)), omega arith)
 
 pub returns-else-has : goal.returns-else-has
-returns-else-has c tie.Need-returns-2 returns-2 c =
-    let a = c.before.before.before.args in
-    (sym (ap (λ (t c Bool). cond t (be 2 (drop a.at a.b.now)) 0) (sym c.before.has.ensures ∙ c.if1.false)), omega arith)
+returns-else-has c =
+    let a = c.args in
+    (sym (ap (λ (t : Bool). cond t (be 2 (drop a.at a.b.now)) 0) (sym c.has.ensures ∙ c.if-has.false)), omega arith)

@@ -6,12 +6,11 @@ use native.Mathlib.Omega.{arith}
 use Rattle.hrr.proofs.pattern_of.Goals as goal
 
 pub returns : goal.returns
-returns c tie.Need-returns returns c =
-    let start = c.before.before.before.before in
-    let s = start.args.s in
+returns c =
+    let s = c.args.s in
     let n = s.magnitude * 1000 + s.phase * 100 + s.range * 10 + s.doppler in
-    let magnitude c n / 1000 ≡ s.magnitude = omega (arith, start.requires) in
-    let phase c n / 100 % 10 ≡ s.phase = omega (arith, start.requires) in
-    let range c n / 10 % 10 ≡ s.range = omega (arith, start.requires) in
-    let doppler c n % 10 ≡ s.doppler = omega (arith, start.requires) in
-    (rw (magnitude, phase, range, doppler), rw (magnitude, phase, range, doppler) start.requires)
+    let magnitude : n / 1000 ≡ s.magnitude = omega (arith, c.requires) in
+    let phase : n / 100 % 10 ≡ s.phase = omega (arith, c.requires) in
+    let range : n / 10 % 10 ≡ s.range = omega (arith, c.requires) in
+    let doppler : n % 10 ≡ s.doppler = omega (arith, c.requires) in
+    (rw (magnitude, phase, range, doppler), rw (magnitude, phase, range, doppler) c.requires)

@@ -28,52 +28,40 @@ unfolding announced_length
 at_8 c = omega (arith, at_7 c, c.width_if-2.ensures.0)
 
 pub number_if-requires : goal.number_if-requires
-number_if-requires c tie.Need-number-if-requires number-if-requires c =
-    let s = c.before.before.before.before.before in
-    (lit≤ tt, lit≤ tt, number-room s.args.mask s.args.b.now 6 _ (lit≤ tt) (lit< tt) refl (at-6 c) s.requires.0.2)
+number_if-requires c =
+    (lit≤ tt, lit≤ tt, number-room c.args.mask c.args.b.now 6 _ (lit≤ tt) (lit< tt) refl (at-6 (goal.at.number_if-requires c).After-width_if-2) c.requires.0.2)
 
 pub number_if-requires-2 : goal.number_if-requires-2
-number_if-requires-2 c tie.Need-number-if-requires-2 number-if-requires-2 c =
-    let s = c.before.before.before.before.before.before in
-    (lit≤ tt, lit≤ tt, number-room s.args.mask s.args.b.now 7 _ (lit≤ tt) (lit< tt) refl (at_7 c.before) s.requires.0.2)
+number_if-requires-2 c =
+    (lit≤ tt, lit≤ tt, number-room c.args.mask c.args.b.now 7 _ (lit≤ tt) (lit< tt) refl (at_7 (goal.at.number_if-requires-2 c).After-width_if-2) c.requires.0.2)
 
 pub number_if-requires-3 : goal.number_if-requires-3
-number_if-requires-3 c tie.Need-number-if-requires-3 number-if-requires-3 c =
-    let s = c.before.before.before.before.before.before.before in
-    (lit≤ tt, lit≤ tt, number-room s.args.mask s.args.b.now 8 _ (lit≤ tt) (lit< tt) refl (at_8 c.before.before) s.requires.0.2)
+number_if-requires-3 c =
+    (lit≤ tt, lit≤ tt, number-room c.args.mask c.args.b.now 8 _ (lit≤ tt) (lit< tt) refl (at_8 (goal.at.number_if-requires-3 c).After-width_if-2) c.requires.0.2)
 
 pub bounds-b-at : goal.bounds-b-at
-bounds-b-at c tie.Need-shared-slice-read-with-widths read-h25 c =
-    let s = c.before.before.before.before.before.before.before.before.before.before in
-    omega (arith, h25-room s.args.mask s.args.b.now s.requires.0.1 s.args.at s.requires.1 s.requires.0.2)
+bounds-b-at c =
+    omega (arith, h25-room c.args.mask c.args.b.now c.requires.0.1 c.args.at c.requires.1 c.requires.0.2)
 
 pub overflow_add-at : goal.overflow_add-at
-overflow_add-at c tie.Need-overflow-add-with-widths add-h26 c =
-    let s = c.before.before.before.before.before.before.before.before.before.before in
-    omega (arith, h25-room s.args.mask s.args.b.now s.requires.0.1 s.args.at s.requires.1 s.requires.0.2, s.well-formed)
+overflow_add-at c =
+    omega (arith, h25-room c.args.mask c.args.b.now c.requires.0.1 c.args.at c.requires.1 c.requires.0.2, c.well-formed)
 
 pub bounds-b-at-2 : goal.bounds-b-at-2
-bounds-b-at-2 c tie.Need-shared-slice-read-with-widths-2 read-h26 c =
-    let s = c.before.before.before.before.before.before.before.before.before.before.before in
-    h25-room s.args.mask s.args.b.now s.requires.0.1 s.args.at s.requires.1 s.requires.0.2
+bounds-b-at-2 c =
+    h25-room c.args.mask c.args.b.now c.requires.0.1 c.args.at c.requires.1 c.requires.0.2
 
 pub returns : goal.returns
 unfolding hrr_fields
-returns c tie.Need-returns unfolding hrr_fields returns c =
-    let count = c.before.before.before in
-    let h8 = count.before in
-    let h7 = h8.before in
-    let h6 = h7.before in
-    let sized = h6.before in
-    let s = sized.before.before.before.before.before in
-    let m = s.args.mask in
-    let b = s.args.b.now in
-    let e6 = number_is m b 6 _ (lit≤ tt) (lit< tt) refl (at-6 sized) h6.number-if.ensures.0 in
-    let e7 = number_is m b 7 _ (lit≤ tt) (lit< tt) refl (at_7 sized) h7.number-if2.ensures.0 in
-    let e8 = number_is m b 8 _ (lit≤ tt) (lit< tt) refl (at_8 sized) h8.number-if3.ensures.0 in
-    let n = count-is m (full_fields m 2 hrr_widths (drop 5 b)) e6 e7 e8 count.count_of.ensures.0 in
-    let h25 = h25-is m b s.requires.0.1 s.args.at s.requires.1 in
-    let h26 = h26-is m b s.requires.0.1 s.args.at s.requires.1 in (
-      c.with-widths.ensures.0 ∙ rw (h25, h26, n) (ap (λ (k c ℕ). scatterers_of m (full_fields k 2 hrr_widths (drop 5 b))) s.requires.0.0),
-      c.with-widths.ensures.1,
+returns c =
+    let m = c.args.mask in
+    let b = c.args.b.now in
+    let e6 = number_is m b 6 _ (lit≤ tt) (lit< tt) refl (at-6 (goal.at.returns c).After-width_if-2) c.number_if.ensures.0 in
+    let e7 = number_is m b 7 _ (lit≤ tt) (lit< tt) refl (at_7 (goal.at.returns c).After-width_if-2) c.number_if-2.ensures.0 in
+    let e8 = number_is m b 8 _ (lit≤ tt) (lit< tt) refl (at_8 (goal.at.returns c).After-width_if-2) c.number_if-3.ensures.0 in
+    let n = count-is m (full_fields m 2 hrr_widths (drop 5 b)) e6 e7 e8 c.count_of-count.ensures.0 in
+    let h25 = h25-is m b c.requires.0.1 c.args.at c.requires.1 in
+    let h26 = h26-is m b c.requires.0.1 c.args.at c.requires.1 in (
+      c.with_widths.ensures.0 ∙ rw (h25, h26, n) (ap (λ (k : ℕ). scatterers_of m (full_fields k 2 hrr_widths (drop 5 b))) c.requires.0.0),
+      c.with_widths.ensures.1,
     )

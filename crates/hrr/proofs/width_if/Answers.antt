@@ -6,7 +6,7 @@ use native.Mathlib.Omega.{arith}
 use Rattle.hrr.proofs.width_if.Goals as goal
 
 pub returns-then-has : goal.returns-then-has
-returns-then-has c tie.Need-returns returns c = (sym (ap (λ (t c Bool). cond t c.before.before.args.w 0) (sym c.before.has.ensures ∙ c.if1.true)), omega arith)
+returns-then-has c = (sym (ap (λ (t : Bool). cond t c.args.w 0) (sym c.has.ensures ∙ c.if-has.true)), omega arith)
 
 pub returns-else-has : goal.returns-else-has
-returns-else-has c tie.Need-returns-2 returns-2 c = (sym (ap (λ (t c Bool). cond t c.before.before.args.w 0) (sym c.before.has.ensures ∙ c.if1.false)), omega arith)
+returns-else-has c = (sym (ap (λ (t : Bool). cond t c.args.w 0) (sym c.has.ensures ∙ c.if-has.false)), omega arith)

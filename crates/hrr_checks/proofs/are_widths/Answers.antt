@@ -16,7 +16,7 @@ at_most m n = go (ltb m n) refl
     go false e = le-leb n m (ltb-false m n e)
 
 pub returns-then-is_between : goal.returns-then-is_between
-returns-then-is_between c tie.Need-returns returns c = rw (sym c.before.is-between.ensures ∙ c.if1.true) (at_most 2 c.before.before.args.h26)
+returns-then-is_between c = rw (sym c.is_between.ensures ∙ c.if-is_between.true) (at_most 2 c.args.h26)
 
 pub returns-else-is_between : goal.returns-else-is_between
-returns-else-is_between c tie.Need-returns-2 returns-2 c = rw (sym c.before.is-between.ensures ∙ c.if1.false) c.if1.false
+returns-else-is_between c = rw (sym c.is_between.ensures ∙ c.if-is_between.false) c.if-is_between.false

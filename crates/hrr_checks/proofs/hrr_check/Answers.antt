@@ -21,19 +21,17 @@ mask_is c = c.is_mask.ensures ∙ ap is_hrr_mask c.mask_of-mask.ensures
 
 pub returns-then-b-lt-MASK : goal.returns-then-b-lt-MASK
 unfolding first_row hrr_rows
-returns-then-b-lt-MASK c tie.Need-returns unfolding first_row hrr_rows returns c = rw (lt-ltb (s2 c.before.before.args.b.now) 10 (omega arith))
+returns-then-b-lt-MASK c = rw (lt-ltb (s2 c.args.b.now) 10 (omega arith))
 
 pub returns-then-not-is_mask : goal.returns-then-not-is_mask
 unfolding first_row hrr_rows
-returns-then-not-is_mask c tie.Need-returns-2 unfolding first_row hrr_rows returns-2 c = sym (past-9 c.before.before.before ∙ rw (sym (mask_is c.before), not-true c.before.is-mask.result c.if2.true))
+returns-then-not-is_mask c = sym (past-9 (goal.at.returns-then-not-is_mask c).Else-b-lt-MASK ∙ rw (sym (mask_is (goal.at.returns-then-not-is_mask c).After-is_mask), not-true c.is_mask.result c.if-not-is_mask.true-raw))
 
 pub size_check-requires : goal.size_check-requires
-size_check-requires c tie.Need-size-check-requires size-check-requires c =
-    let mask = c.before.before in
-    (mask.mask-of.ensures, sym c.before.is-mask.ensures ∙ not-false _ c.if2.false, omega arith)
+size_check-requires c =
+    (c.mask_of-mask.ensures, sym c.is_mask.ensures ∙ not-false _ c.if-not-is_mask.false-raw, omega arith)
 
 pub returns : goal.returns
 unfolding first_row hrr_rows
-returns c tie.Need-returns-3 unfolding first_row hrr_rows returns-3 c =
-    let other = c.before in
-    c.size-check.ensures ∙ sym (past-9 other.before.before.before ∙ rw (sym (mask_is other.before), not-false other.before.is-mask.result other.if2.false))
+returns c =
+    c.size_check.ensures ∙ sym (past-9 (goal.at.returns c).Else-b-lt-MASK ∙ rw (sym (mask_is (goal.at.returns c).After-is_mask), not-false c.is_mask.result c.if-not-is_mask.false-raw))

@@ -11,27 +11,24 @@ use Rattle.format.proofs.Hrr.{is-hrr, widths-narrow}
 use Rattle.hrr_checks.proofs.scatterers_in.Goals as goal
 
 pub mask_of-mask-requires : goal.mask_of-mask-requires
-mask_of-mask-requires c tie.Need-mask-of-requires mask-of-requires c = (is-hrr _ c.before.requires).masked
+mask_of-mask-requires c = (is-hrr _ c.requires).masked
 
 pub scatterers_in-requires : goal.scatterers_in-requires
-scatterers_in-requires c tie.Need-scatterers-in-requires scatterers-in-requires c =
-    let s = c.before.before.before in
-    let m = c.before.mask-of.ensures in
-    let h = is-hrr s.args.b.now s.requires in (
-      (m, ap is_hrr_mask m ∙ h.mask-passes, omega (arith, h.exact, ap (λ (k c ℕ). announced_length k 2 hrr_widths) m)),
-      ap (λ (n c ℕ). 5 + n) c.length-before-h25.ensures.0,
+scatterers_in-requires c =
+    let m = c.mask_of-mask.ensures in
+    let h = is-hrr c.args.b.now c.requires in (
+      (m, ap is_hrr_mask m ∙ h.mask-passes, omega (arith, h.exact, ap (λ (k : ℕ). announced_length k 2 hrr_widths) m)),
+      ap (λ (n : ℕ). 5 + n) c.length_before_h25.ensures.0,
     )
 
 pub returns : goal.returns
 unfolding scatterer_widths
-returns c tie.Need-returns unfolding scatterer_widths returns c =
-    let mask = c.before.before in
-    let s = mask.before.before in
-    let b = s.args.b.now in
-    let m = mask.mask-of.ensures in
-    let h = is-hrr b s.requires in
-    let is = c.scatterers-in.ensures.0 ∙ ap (λ (k c ℕ). scatterers_of k (hrr_fields b)) m in
+returns c =
+    let b = c.args.b.now in
+    let m = c.mask_of-mask.ensures in
+    let h = is-hrr b c.requires in
+    let is = c.scatterers_in.ensures.0 ∙ ap (λ (k : ℕ). scatterers_of k (hrr_fields b)) m in
     let narrow = widths-narrow b h in (
-      (is, rw is (narrow.0, narrow.1.0, taken-most _ (d32 3) index_width, taken-most _ (d32 4) index_width), c.scatterers-in.ensures.1),
+      (is, rw is (narrow.0, narrow.1.0, taken-most _ (d32 3) index_width, taken-most _ (d32 4) index_width), c.scatterers_in.ensures.1),
       ((refl, h.mask-passes, omega (arith, h.exact)), rw is (sym h.exact)),
     )

@@ -26,9 +26,8 @@ start_is : (c : After-fields_length-start) → 5 + c.fields_length-start.result 
 start_is c = omega (arith, c.fields_length-start.ensures.0 ∙ ap (λ (k : ℕ). announced_length k 2 hrr_widths) c.requires.0)
 
 pub returns-then-b-start : goal.returns-then-b-start
-returns-then-b-start c tie.Need-returns returns c =
-    let s = c.before.before.before in
-    wrong_size s.args.b.now (λ e. absurd (omega (arith, start_is c.before, c.if1.true)))
+returns-then-b-start c =
+    wrong_size c.args.b.now (λ e. absurd (omega (arith, start_is (goal.at.returns-then-b-start c).After-fields_length-start, c.if-b-start.true)))
 
 -- the announced fields are there
 has-fields : (c : Else-b-start) → 5 + announced_length c.args.mask 2 hrr_widths ≤ length c.args.b.now
@@ -43,10 +42,10 @@ room c =
     h25-room c.args.mask c.args.b.now c.requires.1 _ (place c) (has-fields (goal.at.After-length_before_h25-at c).Else-b-start)
 
 pub bounds-b-at : goal.bounds-b-at
-bounds-b-at c tie.Need-shared-slice-read-are-widths read-h25 c = omega (arith, room c.before)
+bounds-b-at c = omega (arith, room (goal.at.bounds-b-at c).After-length_before_h25-at)
 
 pub bounds-b-at-2 : goal.bounds-b-at-2
-bounds-b-at-2 c tie.Need-shared-slice-read-are-widths-2 read-h26 c = room c.before.before
+bounds-b-at-2 c = room (goal.at.bounds-b-at-2 c).After-length_before_h25-at
 
 -- what they say of row 22
 widths-are : (c : After-are_widths) → let f = hrr_fields c.args.b.now in
@@ -60,17 +59,15 @@ widths-are c =
     (ap (λ (k : ℕ). tests (full_fields k 2 hrr_widths (drop 5 b))) c.requires.0)
 
 pub returns-then-not-are_widths : goal.returns-then-not-are_widths
-returns-then-not-are_widths c tie.Need-returns-2 returns-2 c = wrong-widths _ (sym (widths-are c.before) ∙ not-true c.before.are-widths.result c.if2.true)
+returns-then-not-are_widths c = wrong-widths _ (sym (widths-are (goal.at.returns-then-not-are_widths c).After-are_widths) ∙ not-true c.are_widths.result c.if-not-are_widths.true-raw)
 
 pub scatterers_in-s-requires : goal.scatterers_in-s-requires
-scatterers_in-s-requires c tie.Need-scatterers-in-requires scatterers-in-requires c =
-    let at = c.before.before.before.before in
-    let s = at.before.before.before.before in
-    ((s.requires.0, s.requires.1, has-fields at.before), place at)
+scatterers_in-s-requires c =
+    ((c.requires.0, c.requires.1, has-fields (goal.at.scatterers_in-s-requires c).Else-b-start), place (goal.at.scatterers_in-s-requires c).After-length_before_h25-at)
 
 pub each_of-requires : goal.each_of-requires
-each_of-requires c tie.Need-each-of-requires each-of-requires c =
-    let b = c.scatterers-in.ensures.1 in
+each_of-requires c =
+    let b = c.scatterers_in-s.ensures.1 in
     (b.0, b.1, b.2, b.3)
 
 -- what the scatterers take, as row 22 counts it
@@ -86,10 +83,10 @@ fits : (c : After-each_of) → c.scatterers_in-s.result.count * c.each_of.result
 fits c = mul-le-mul c.scatterers_in-s.ensures.1.4 c.each_of.ensures.1
 
 pub overflow_mul-s : goal.overflow_mul-s
-overflow_mul-s c tie.Need-overflow-mul-if3 mul-if3 c = omega (arith, fits c.before)
+overflow_mul-s c = omega (arith, fits (goal.at.overflow_mul-s c).After-each_of)
 
 pub overflow_add-start-2 : goal.overflow_add-start-2
-overflow_add-start-2 c tie.Need-overflow-add-if3 add-if3 c = omega (arith, fits c.before, c.before.before.before.before.before.before.before.before.before.fields-length.ensures.1)
+overflow_add-start-2 c = omega (arith, fits (goal.at.overflow_add-start-2 c).After-each_of, c.fields_length-start.ensures.1)
 
 -- the size that it asks for
 size_is : (c : After-struct_known-1) → let b = c.args.b.now in
@@ -98,9 +95,8 @@ size_is : (c : After-struct_known-1) → let b = c.args.b.now in
 size_is c = ap₂ ◌+◌ (start_is (goal.at.After-struct_known-1 c).After-fields_length-start) (product_is (goal.at.After-struct_known-1 c).After-each_of)
 
 pub returns-then-b-start-2 : goal.returns-then-b-start-2
-returns-then-b-start-2 c tie.Need-returns-3 returns-3 c = wrong_size _ (λ e. c.if3.true (e ∙ sym (size_is c.before)))
+returns-then-b-start-2 c = wrong_size _ (λ e. c.if-b-start-2.true (e ∙ sym (size_is (goal.at.returns-then-b-start-2 c).After-struct_known-1)))
 
 pub returns : goal.returns
-returns c tie.Need-returns-4 returns-4 c =
-    let widths-right = c.before.before.before.before in
-    right-size _ (sym (widths-are widths-right.before) ∙ not-false widths-right.before.are-widths.result widths-right.if2.false) (c.if3.false ∙ size_is c.before)
+returns c =
+    right-size _ (sym (widths-are (goal.at.returns c).After-are_widths) ∙ not-false c.are_widths.result c.if-not-are_widths.false-raw) (c.if-b-start-2.false ∙ size_is (goal.at.returns c).After-struct_known-1)

@@ -29,35 +29,32 @@ within c =
     (omega (arith, l.invariant, s.pre), omega arith)
 
 pub loop-i-init : goal.loop-i-init
-loop-i-init c tie.Need-loop-init invariant-loop decreases-loop loop-holds c =
-    let a = c.before.before.args in
-    let e c a.count - 0 ≡ a.count = omega arith in
-    (omega arith, omega arith, omega arith, refl, ap (λ (n c ℕ). sets a.o.now 0 (record_bytes (scatterer_records (digits a.n) n a.t.now))) e)
+loop-i-init c =
+    let a = c.args in
+    let e : a.count - 0 ≡ a.count = omega arith in
+    (omega arith, omega arith, omega arith, refl, ap (λ (n : ℕ). sets a.o.now 0 (record_bytes (scatterer_records (digits a.n) n a.t.now))) e)
 
 pub scatterer_record-requires : goal.scatterer_record-requires
-scatterer_record-requires c tie.Need-scatterer-record-requires invariant-loop decreases-loop scatterer-record-requires c =
-    let turn = c.before.before in
-    let s = start turn in
-    let l = turn.before.loop in
-    let h = within turn in
+scatterer_record-requires c =
+    let s = start c in
+    let l = c.loop-i in
+    let h = within (goal.at.scatterer_record-requires c).In-loop-i in
     (s.pre.0, search rules, search rules)
 
 pub loop-i-preserved : goal.loop-i-preserved
 unfolding total
-loop-i-preserved c tie.Need-loop-preserved invariant-loop decreases-loop unfolding total loop-again c =
-    let stored = c.before.before in
-    let turn = stored.before.before.before in
-    let a = (start turn).args in
-    let l = turn.before.loop in (
+loop-i-preserved c =
+    let a = (start c).args in
+    let l = c.loop-i in (
       omega arith,
       omega arith,
       omega arith,
       search rules,
-      scatterers-next (digits a.n) (a.count - l.i) (a.count - (l.i + 1)) l.at l.q _ a.t.now l.o _ (omega arith) (omega arith) stored.scatterer-record.ensures l.invariant.4,
+      scatterers-next (digits a.n) (a.count - l.i) (a.count - (l.i + 1)) l.at l.q _ a.t.now l.o _ (omega arith) (omega arith) c.scatterer_record.ensures l.invariant.4,
     )
 
 pub returns : goal.returns
-returns c tie.Need-returns invariant-loop decreases-loop returns c =
-    let a = c.before.before.before.before.args in
-    let l = c.before.loop in
+returns c =
+    let a = c.args in
+    let l = c.loop-i in
     scatterers-last (digits a.n) (a.count - l.i) l.at l.q a.t.now l.o _ (omega arith) l.invariant.4

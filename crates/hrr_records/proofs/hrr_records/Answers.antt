@@ -26,34 +26,28 @@ begins c =
     ap (λ (n : ℕ). 5 + n) (c.fields_length-start.ensures.0 ∙ ap (λ (mask : ℕ). announced_length mask 2 hrr_widths) c.mask_of-mask.ensures)
 
 pub mask_of-mask-requires : goal.mask_of-mask-requires
-mask_of-mask-requires c tie.Need-mask-of-requires mask-of-requires c = let s = c.before.before in (is-hrr s.args.b.now s.requires.0).masked
+mask_of-mask-requires c = (is-hrr c.args.b.now c.requires.0).masked
 
 pub hrr_record-requires : goal.hrr_record-requires
-hrr_record-requires c tie.Need-hrr-record-requires hrr-record-requires c =
-    let known = c.before in
-    (rw known.before.before.mask-of.ensures known.scatterers-in.ensures.1.0, omega (arith, (start known).requires))
+hrr_record-requires c =
+    (rw c.mask_of-mask.ensures c.scatterers_in-s.ensures.1.0, omega (arith, (start c).requires))
 
 pub slice_bounds-scatterer_records-count : goal.slice_bounds-scatterer_records-count
-slice_bounds-scatterer_records-count c tie.Need-overflow-sub-scatterer-records sub-scatterer-records c = let known = c.before.before.before.before in omega (arith, begins known, known.scatterers-in.ensures.1.1)
+slice_bounds-scatterer_records-count c = omega (arith, begins (goal.at.slice_bounds-scatterer_records-count c).After-scatterers_in-s, c.scatterers_in-s.ensures.1.1)
 
 pub slice_bounds-scatterer_records-start : goal.slice_bounds-scatterer_records-start
-slice_bounds-scatterer_records-start c tie.Need-slice-bounds-scatterer-records-start part-scatterer-records-start c = let known = c.before.before.before.before in omega (arith, begins known, known.scatterers-in.ensures.1.1)
+slice_bounds-scatterer_records-start c = omega (arith, begins (goal.at.slice_bounds-scatterer_records-start c).After-scatterers_in-s, c.scatterers_in-s.ensures.1.1)
 
 pub scatterer_records-requires : goal.scatterer_records-requires
-scatterer_records-requires c tie.Need-scatterer-records-requires scatterer-records-requires c =
-    let head = c.before.before.before.before in
-    let known = head.before.before in
-    let found = known.scatterers-in in
-    let s = start known in
-    let count = ap (λ (k c Scatterers). k.count) found.ensures.0.0 in
-    (found.ensures.0.1, omega (arith, begins known, found.ensures.1.1), omega (arith, s.pre.1, count, head.hrr-record.auto))
+scatterer_records-requires c =
+    let found = c.scatterers_in-s in
+    let s = start c in
+    let count = ap (λ (k : Scatterers). k.count) found.ensures.0.0 in
+    (found.ensures.0.1, omega (arith, begins (goal.at.scatterer_records-requires c).After-scatterers_in-s, found.ensures.1.1), omega (arith, s.pre.1, count, c.hrr_record.auto))
 
 pub returns : goal.returns
-returns c tie.Need-returns returns c =
-    let laid = c.before.before in
-    let head = laid.before.before.before.before.before in
-    let known = head.before.before in
-    let a = (start known).args in
-    let s = known.scatterers-in.result in
-    hrr-with-scatterers a.b.now a.o.now s (5 + known.before.fields-length.result) known.scatterers-in.ensures.0.0 (begins known) head.hrr-record.ensures
-    (part-laid (λ (x c List ℕ). record_bytes (scatterer_records (widths_of s) s.count x)) a.b.now head.hrr-record.new.1.1.0 (5 + known.before.fields-length.result) (record_length 11) laid.scatterer-records.ensures)
+returns c =
+    let a = (start c).args in
+    let s = c.scatterers_in-s.result in
+    hrr-with-scatterers a.b.now a.o.now s (5 + c.fields_length-start.result) c.scatterers_in-s.ensures.0.0 (begins (goal.at.returns c).After-scatterers_in-s) c.hrr_record.ensures
+    (part-laid (λ (x : List ℕ). record_bytes (scatterer_records (widths_of s) s.count x)) a.b.now c.hrr_record.new.1.1.0 (5 + c.fields_length-start.result) (record_length 11) c.scatterer_records.ensures)

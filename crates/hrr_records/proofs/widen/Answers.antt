@@ -8,11 +8,9 @@ use Rattle.hrr_records.proofs.Widened.{wide-spelt}
 use Rattle.hrr_records.proofs.widen.Goals as goal
 
 pub join-requires : goal.join-requires
-join-requires c tie.Need-join-requires join-requires c =
-    let s = c.before.before in
-    (omega arith, one-le-pow _ 256 (lit< tt), half s.args.w (omega (arith, s.requires)) c.get.ensures)
+join-requires c =
+    (omega arith, one-le-pow _ 256 (lit< tt), half c.args.w (omega (arith, c.requires)) c.get.ensures)
 
 pub returns : goal.returns
-returns c tie.Need-returns returns c =
-    let s = c.before.before.before in
-    wide-spelt s.args.w s.args.at _ _ s.args.t.now s.requires.0 s.requires.1 c.before.get.ensures c.join.ensures
+returns c =
+    wide-spelt c.args.w c.args.at _ _ c.args.t.now c.requires.0 c.requires.1 c.get.ensures c.join.ensures

@@ -4,7 +4,7 @@ use native.Mathlib.Omega.{arith}
 use Rattle.lines.proofs.at_end.Goals as goal
 
 pub returns-then-end-eq0 : goal.returns-then-end-eq0
-returns-then-end-eq0 c tie.Need-returns returns c = c.last.ensures c.before.before.args.end tt
+returns-then-end-eq0 c = c.last.ensures c.args.end tt
 
 pub returns-else-end-eq0 : goal.returns-else-end-eq0
-returns-else-end-eq0 c tie.Need-returns-2 returns-2 c = c.last2.ensures c.before.before.args.end (omega arith, omega arith)
+returns-else-end-eq0 c = c.last-else-end-eq0.ensures c.args.end (omega arith, omega arith)

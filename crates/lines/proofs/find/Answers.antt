@@ -8,22 +8,22 @@ use Rattle.lines.proofs.Search.{before-end, before-found, before-next}
 use Rattle.lines.proofs.find.Goals as goal
 
 pub loop-i-init : goal.loop-i-init
-loop-i-init c tie.Need-loop-init invariant-loop decreases-loop loop-holds c = (omega arith, omega arith, refl)
+loop-i-init c = (omega arith, omega arith, refl)
 
 pub returns-then-s-i : goal.returns-then-s-i
-returns-then-s-i c tie.Need-returns invariant-loop decreases-loop returns c =
-    let a = c.before.before.before.before.args in
-    let l = c.before.before.before.loop in
-    (sym (before-found a.b a.s.now l.i (omega arith) c.if1.true) ∙ l.invariant.2, (omega arith, omega arith))
+returns-then-s-i c =
+    let a = c.args in
+    let l = c.loop-i in
+    (sym (before-found a.b a.s.now l.i (omega arith) c.if-s-i.true) ∙ l.invariant.2, (omega arith, omega arith))
 
 pub loop-i-preserved : goal.loop-i-preserved
-loop-i-preserved c tie.Need-loop-preserved invariant-loop decreases-loop loop-again c =
-    let a = c.before.before.before.before.args in
-    let l = c.before.before.before.loop in
-    (omega arith, omega arith, before-next a.b a.s.now l.i (omega arith) c.if1.false ∙ l.invariant.2)
+loop-i-preserved c =
+    let a = c.args in
+    let l = c.loop-i in
+    (omega arith, omega arith, before-next a.b a.s.now l.i (omega arith) c.if-s-i.false ∙ l.invariant.2)
 
 pub returns : goal.returns
-returns c tie.Need-returns-2 invariant-loop decreases-loop returns-2 c =
-    let a = c.before.before.args in
-    let l = c.before.loop in
+returns c =
+    let a = c.args in
+    let l = c.loop-i in
     (sym (before-end a.b a.s.now l.i (omega arith)) ∙ l.invariant.2, (omega arith, omega arith))

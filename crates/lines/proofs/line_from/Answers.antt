@@ -13,10 +13,10 @@ searched : (c : tie.After-find-arg) â†’ length (take c.args.end c.args.b.now) â‰
 searched c = length-take-le c.args.end c.args.b.now c.requires.1
 
 pub slice_bounds-find-end-2 : goal.slice_bounds-find-end-2
-slice_bounds-find-end-2 c tie.Need-slice-aggregate-find slice-aggregate-find c = sym (searched c)
+slice_bounds-find-end-2 c = sym (searched (goal.at.slice_bounds-find-end-2 c).After-find-arg)
 
 pub find-to-requires : goal.find-to-requires
-find-to-requires c tie.Need-find-requires find-requires c = omega (arith, searched c, c.before.before.before.requires.0)
+find-to-requires c = omega (arith, searched (goal.at.find-to-requires c).After-find-arg, c.requires.0)
 
 pub returns-then-to-end : goal.returns-then-to-end
-returns-then-to-end c tie.Need-returns returns c = step-more c.whole-line.result c.before.before.before.before.before.before.requires.1 c.whole-line.ensures
+returns-then-to-end c = step-more c.whole_line.result c.requires.1 c.whole_line.ensures

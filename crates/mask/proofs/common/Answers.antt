@@ -4,4 +4,4 @@ use Rattle.mask.proofs.Bit.{set-and}
 use Rattle.mask.proofs.common.Goals as goal
 
 pub returns : goal.returns
-returns c tie.Need-returns returns c n = set-and c.args.set c.args.mask n
+returns c n = set-and c.args.set c.args.mask n

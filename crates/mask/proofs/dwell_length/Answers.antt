@@ -9,10 +9,8 @@ use Rattle.mask.proofs.dwell_length.Goals as goal
 
 pub returns : goal.returns
 unfolding announced_length
-returns c tie.Need-returns unfolding announced_length returns c =
-    let d22 = c.before.before.before.before in
-    let d14 = d22.before.before.before.before in
-    let m = d14.before.before.before.before.before.before.before.before.args.mask in
+returns c =
+    let m = c.args.mask in
     omega (
       arith,
       four-fields m 2 (widths 2 5) (lit≤ tt),

@@ -22,14 +22,14 @@ product_le : (c : After-target_length) → c.args.targets * c.target_length.resu
 product_le c = let t : c.args.targets ≤ 65535 = omega arith in mul-le-mul t (target-le c)
 
 pub overflow_add-result : goal.overflow_add-result
-overflow_add-result c tie.Need-overflow-add-result add-result c = omega (arith, dwell-le c)
+overflow_add-result c = omega (arith, dwell-le (goal.at.overflow_add-result c).After-dwell_length)
 
 pub overflow_mul-result : goal.overflow_mul-result
-overflow_mul-result c tie.Need-overflow-mul-result mul-result c = omega (arith, product_le c)
+overflow_mul-result c = omega (arith, product_le (goal.at.overflow_mul-result c).After-target_length)
 
 pub overflow_add-result-2 : goal.overflow_add-result-2
-overflow_add-result-2 c tie.Need-overflow-add-result-2 add-result-2 c = omega (arith, dwell-le c.before, product_le c)
+overflow_add-result-2 c = omega (arith, dwell-le (goal.at.overflow_add-result-2 c).After-dwell_length, product_le (goal.at.overflow_add-result-2 c).After-target_length)
 
 pub returns : goal.returns
 unfolding dwell_size
-returns c tie.Need-returns unfolding dwell_size returns c = cc
+returns c = cc

@@ -7,9 +7,9 @@ use lib.ListN.{get_or}
 use Rattle.mask.proofs.four.Goals as goal
 
 pub bounds-lengths-i : goal.bounds-lengths-i
-bounds-lengths-i c tie.Need-element-copy-out-wide element-copy-out-wide c = mask_lt (c.args.mask / 2 ^ (62 - c.args.n)) 4
+bounds-lengths-i c = mask_lt (c.args.mask / 2 ^ (62 - c.args.n)) 4
 
 pub returns : goal.returns
-returns c tie.Need-returns returns c =
-    let a = c.before.before.args in
-    (c.wide.ensures.0 ∙ ap (λ (i c ℕ). get_or a.lengths.now i 0) (and_mask (a.mask / 2 ^ (62 - a.n)) 4), c.wide.ensures.1)
+returns c =
+    let a = c.args in
+    (c.wide.ensures.0 ∙ ap (λ (i : ℕ). get_or a.lengths.now i 0) (and_mask (a.mask / 2 ^ (62 - a.n)) 4), c.wide.ensures.1)

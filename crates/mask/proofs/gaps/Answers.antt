@@ -6,7 +6,7 @@ use Rattle.mask.proofs.Bit.{set-none}
 use Rattle.mask.proofs.gaps.Goals as goal
 
 pub returns-then-mask-set-eq0 : goal.returns-then-mask-set-eq0
-returns-then-mask-set-eq0 c tie.Need-returns returns c n = simp (set-none, eq-eqb _ _ c.if1.true, and-false)
+returns-then-mask-set-eq0 c n = simp (set-none, eq-eqb _ _ c.if-mask-set-eq0.true, and-false)
 
 pub returns-else-mask-set-eq0 : goal.returns-else-mask-set-eq0
-returns-else-mask-set-eq0 c tie.Need-returns-2 returns-2 c n = simp (ne_eqb _ _ c.before.if1.false, and-true) (c.missing.ensures n)
+returns-else-mask-set-eq0 c n = simp (ne_eqb _ _ c.if-mask-set-eq0.false, and-true) (c.missing.ensures n)

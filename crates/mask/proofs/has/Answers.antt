@@ -9,4 +9,4 @@ use Rattle.mask.proofs.has.Goals as goal
 
 pub returns : goal.returns
 unfolding announced
-returns c tie.Need-returns unfolding announced returns c = ap (λ (m c ℕ). eqb m 1) (and_mask (c.args.mask / 2 ^ (65 - c.args.n)) 1)
+returns c = ap (λ (m : ℕ). eqb m 1) (and_mask (c.args.mask / 2 ^ (65 - c.args.n)) 1)

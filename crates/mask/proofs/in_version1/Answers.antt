@@ -5,7 +5,7 @@ use Rattle.mask.proofs.Bit.{set-none}
 use Rattle.mask.proofs.in_version1.Goals as goal
 
 pub returns-then-version-eq1 : goal.returns-then-version-eq1
-returns-then-version-eq1 c tie.Need-returns returns c n = simp (eq-eqb c.before.args.version 1 c.if1.true)
+returns-then-version-eq1 c n = simp (eq-eqb c.args.version 1 c.if-version-eq1.true)
 
 pub returns-else-version-eq1 : goal.returns-else-version-eq1
-returns-else-version-eq1 c tie.Need-returns-2 returns-2 c n = simp (set-none, ne_eqb c.before.args.version 1 c.if1.false)
+returns-else-version-eq1 c n = simp (set-none, ne_eqb c.args.version 1 c.if-version-eq1.false)

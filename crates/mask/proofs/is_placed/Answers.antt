@@ -18,16 +18,16 @@ pair_is c =
 
 pub returns-then-has-2 : goal.returns-then-has-2
 unfolding is_placed
-returns-then-has-2 c tie.Need-returns unfolding is_placed returns c = rw (sym (pair_is c.before) ∙ c.if2.true) c.if2.true
+returns-then-has-2 c = rw (sym (pair_is (goal.at.returns-then-has-2 c).Joined-has) ∙ c.if-has-2.true) c.if-has-2.true
 
 pub returns-then-has-3 : goal.returns-then-has-3
 unfolding is_placed
-returns-then-has-3 c tie.Need-returns-2 unfolding is_placed returns-2 c =
-    rw (sym (pair_is c.before.before.before.before) ∙ c.before.before.before.if2.false, sym c.before.before.has3.ensures ∙ c.before.if3.true)
-    c.has4.ensures
+returns-then-has-3 c =
+    rw (sym (pair_is (goal.at.returns-then-has-3 c).Joined-has) ∙ c.if-has-2.false, sym c.has-else-has-2.ensures ∙ c.if-has-3.true)
+    c.has-then-has-3.ensures
 
 pub returns-else-has-3 : goal.returns-else-has-3
 unfolding is_placed
-returns-else-has-3 c tie.Need-returns-3 unfolding is_placed returns-3 c =
-    rw (sym (pair_is c.before.before.before) ∙ c.before.before.if2.false, sym c.before.has3.ensures ∙ c.if3.false)
-    c.if3.false
+returns-else-has-3 c =
+    rw (sym (pair_is (goal.at.returns-else-has-3 c).Joined-has) ∙ c.if-has-2.false, sym c.has-else-has-2.ensures ∙ c.if-has-3.false)
+    c.if-has-3.false

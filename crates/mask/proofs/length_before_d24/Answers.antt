@@ -12,12 +12,11 @@ use Rattle.mask.proofs.length_before_d24.Goals as goal
 
 pub returns : goal.returns
 unfolding announced_length total
-returns c tie.Need-returns unfolding announced_length total returns c =
-    let s = c.before.before.before.before.before.before.before.before in
-    let m = s.args.mask in
+returns c =
+    let m = c.args.mask in
     omega (
       arith,
-      from-10 m s.requires (widths 10 23),
+      from-10 m c.requires (widths 10 23),
       four-fields m 10 (widths 10 13) (lit≤ tt),
       four-fields m 14 (widths 14 17) (lit≤ tt),
       four-fields m 18 (widths 18 21) (lit≤ tt),

@@ -12,7 +12,6 @@ use Rattle.mask.proofs.length_from_d24.Goals as goal
 
 pub returns : goal.returns
 unfolding announced_length total
-returns c tie.Need-returns unfolding announced_length total returns c =
-    let s = c.before.before in
-    let m = s.args.mask in
-    omega (arith, from-28 m s.requires (widths 28 31), four-fields m 28 (widths 28 31) (lit≤ tt), announced-le m 24 (widths 24 31))
+returns c =
+    let m = c.args.mask in
+    omega (arith, from-28 m c.requires (widths 28 31), four-fields m 28 (widths 28 31) (lit≤ tt), announced-le m 24 (widths 24 31))

@@ -7,16 +7,16 @@ use Rattle.mask.proofs.Lowest.{holds-nowhere, holds-first}
 use Rattle.mask.proofs.lowest_fault.Goals as goal
 
 pub overflow_add-result : goal.overflow_add-result
-overflow_add-result c tie.Need-overflow-add-result add-result c = omega (arith, leading_le 64 c.before.faults.result)
+overflow_add-result c = omega (arith, leading_le 64 c.faults-w.result)
 
 pub returns-then-w-eq0 : goal.returns-then-w-eq0
 unfolding lowest_fault
-returns-then-w-eq0 c tie.Need-returns unfolding lowest_fault returns c =
-    let a = c.before.before.args in
-    holds-nowhere (is_fault a.version a.mask) c.before.faults.result c.before.faults.ensures c.if1.true
+returns-then-w-eq0 c =
+    let a = c.args in
+    holds-nowhere (is_fault a.version a.mask) c.faults-w.result c.faults-w.ensures c.if-w-eq0.true
 
 pub returns-else-w-eq0 : goal.returns-else-w-eq0
 unfolding lowest_fault
-returns-else-w-eq0 c tie.Need-returns-2 unfolding lowest_fault returns-2 c =
-    let a = c.before.before.args in
-    holds-first (is_fault a.version a.mask) c.before.faults.result c.before.faults.ensures c.if1.false (omega arith)
+returns-else-w-eq0 c =
+    let a = c.args in
+    holds-first (is_fault a.version a.mask) c.faults-w.result c.faults-w.ensures c.if-w-eq0.false (omega arith)

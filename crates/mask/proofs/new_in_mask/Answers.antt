@@ -23,13 +23,13 @@ last-is c =
     ∙ new-last c.args.mask c.gaps-w.result (word-is (goal.at.After-has c).After-gaps-w) c.if-w-ne0.false
 
 pub overflow_add-result : goal.overflow_add-result
-overflow_add-result c tie.Need-overflow-add-result add-result c = omega (arith, leading_le 64 c.before.gaps.result)
+overflow_add-result c = omega (arith, leading_le 64 c.gaps-w.result)
 
 pub returns-then-w-ne0 : goal.returns-then-w-ne0
-returns-then-w-ne0 c tie.Need-returns returns c = new-gap c.before.before.args.mask c.before.gaps.result (word-is c.before) c.if1.true (omega arith)
+returns-then-w-ne0 c = new-gap c.args.mask c.gaps-w.result (word-is (goal.at.returns-then-w-ne0 c).After-gaps-w) c.if-w-ne0.true (omega arith)
 
 pub returns-then-has : goal.returns-then-has
-returns-then-has c tie.Need-returns-2 returns-2 c = rw c.if2.true at (last-is c.before)
+returns-then-has c = rw c.if-has.true at (last-is (goal.at.returns-then-has c).After-has)
 
 pub returns-else-has : goal.returns-else-has
-returns-else-has c tie.Need-returns-3 returns-3 c = rw c.if2.false at (last-is c.before)
+returns-else-has c = rw c.if-has.false at (last-is (goal.at.returns-else-has c).After-has)

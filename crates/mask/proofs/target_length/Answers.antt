@@ -9,8 +9,8 @@ use Rattle.mask.proofs.target_length.Goals as goal
 
 pub returns : goal.returns
 unfolding announced_length
-returns c tie.Need-returns unfolding announced_length returns c =
-    let m = c.before.before.before.before.before.before.before.before.before.before.args.mask in
+returns c =
+    let m = c.args.mask in
     omega (
       arith,
       four-fields m (d32 1) (widths (d32 1) (d32 4)) (lit≤ tt),

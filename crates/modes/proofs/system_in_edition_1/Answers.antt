@@ -7,4 +7,4 @@ use Rattle.modes.proofs.system_in_edition_1.Goals as goal
 
 pub returns : goal.returns
 unfolding every are_entries system_in place_from system_number
-returns c tie.Need-returns unfolding every are_entries system_in place_from system_number returns c = c.entry.ensures edition1 refl
+returns c = c.entry.ensures edition1 refl

@@ -17,19 +17,19 @@ known : (c : Then-x-lt0) → Counted w32 c.args.x (to_z w32 (of_z w32 (negsuc 0 
 known c = counted w32 c.args.x c.ranges.x (rw (back (goal.at.Then-x-lt0 c).Start) at c.if-x-lt0.true)
 
 pub overflow_sub-result : goal.overflow_sub-result
-overflow_sub-result c tie.Need-overflow-sub-result sub-result c = rw (back c.before) (known c).fits-down
+overflow_sub-result c = rw (back (goal.at.overflow_sub-result c).Start) (known (goal.at.overflow_sub-result c).Then-x-lt0).fits-down
 
 pub overflow_cast-result : goal.overflow_cast-result
-overflow_cast-result c tie.Need-overflow-cast-result cast-result c = rw (back c.before) (known c).not_neg
+overflow_cast-result c = rw (back (goal.at.overflow_cast-result c).Start) (known (goal.at.overflow_cast-result c).Then-x-lt0).not_neg
 
 pub overflow_sub-result-then-x-lt0 : goal.overflow_sub-result-then-x-lt0
-overflow_sub-result-then-x-lt0 c tie.Need-overflow-sub-result-2 sub-result-2 c = rw (back c.before) (known c).below
+overflow_sub-result-then-x-lt0 c = rw (back (goal.at.overflow_sub-result-then-x-lt0 c).Start) (known (goal.at.overflow_sub-result-then-x-lt0 c).Then-x-lt0).below
 
 pub overflow_cast-result-else-x-lt0 : goal.overflow_cast-result-else-x-lt0
-overflow_cast-result-else-x-lt0 c tie.Need-overflow-cast-result-2 cast-result-2 c = rw (back c.before) (plain w32 c.before.args.x c.before.ranges.x (rw (back c.before) at c.if1.false)).0
+overflow_cast-result-else-x-lt0 c = rw (back (goal.at.overflow_cast-result-else-x-lt0 c).Start) (plain w32 c.args.x c.ranges.x (rw (back (goal.at.overflow_cast-result-else-x-lt0 c).Start) at c.if-x-lt0.false)).0
 
 pub returns-then-x-lt0 : goal.returns-then-x-lt0
-returns-then-x-lt0 c tie.Need-returns returns c = rw (back c.before) (ap (bytes 4) (known c).bits_are ∙ signed-bytes 4 w32 refl c.before.args.x)
+returns-then-x-lt0 c = rw (back (goal.at.returns-then-x-lt0 c).Start) (ap (bytes 4) (known (goal.at.returns-then-x-lt0 c).Then-x-lt0).bits_are ∙ signed-bytes 4 w32 refl c.args.x)
 
 pub returns-else-x-lt0 : goal.returns-else-x-lt0
-returns-else-x-lt0 c tie.Need-returns-2 returns-2 c = rw (back c.before) (ap (bytes 4) (plain w32 c.before.args.x c.before.ranges.x (rw (back c.before) at c.if1.false)).1 ∙ signed-bytes 4 w32 refl c.before.args.x)
+returns-else-x-lt0 c = rw (back (goal.at.returns-else-x-lt0 c).Start) (ap (bytes 4) (plain w32 c.args.x c.ranges.x (rw (back (goal.at.returns-else-x-lt0 c).Start) at c.if-x-lt0.false)).1 ∙ signed-bytes 4 w32 refl c.args.x)

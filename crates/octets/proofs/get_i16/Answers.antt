@@ -9,4 +9,4 @@ use Rattle.octets.proofs.get_i16.Goals as goal
 
 pub returns : goal.returns
 unfolding signed
-returns c tie.Need-returns unfolding signed returns c = to_z-of_z (sfits_of {w = w16} c.signed16.type-inv) ∙ c.signed16.ensures ∙ ap (twos 2) c.before.get-u16.ensures
+returns c = to_z-of_z (sfits_of {w = w16} c.signed16.type_inv) ∙ c.signed16.ensures ∙ ap (twos 2) c.get_u16.ensures

@@ -9,4 +9,4 @@ use Rattle.octets.proofs.get_i32.Goals as goal
 
 pub returns : goal.returns
 unfolding signed
-returns c tie.Need-returns unfolding signed returns c = to_z-of_z (sfits_of {w = w32} c.signed32.type-inv) ∙ c.signed32.ensures ∙ ap (twos 4) c.before.get-u32.ensures
+returns c = to_z-of_z (sfits_of {w = w32} c.signed32.type_inv) ∙ c.signed32.ensures ∙ ap (twos 4) c.get_u32.ensures

@@ -8,4 +8,4 @@ use Rattle.octets.proofs.get_u16.Goals as goal
 
 pub returns : goal.returns
 unfolding be
-returns c tie.Need-returns unfolding be returns c = simp (get_or-drop, add-zero) (omega arith)
+returns c = simp (get_or-drop, add-zero) (omega arith)

@@ -4,4 +4,4 @@ use Rattle.octets.proofs.Laws.{joined}
 use Rattle.octets.proofs.get_u32.Goals as goal
 
 pub returns : goal.returns
-returns c tie.Need-returns returns c = search (joined 2 2)
+returns c = search (joined 2 2)

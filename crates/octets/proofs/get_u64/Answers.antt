@@ -4,4 +4,4 @@ use Rattle.octets.proofs.Laws.{joined-4}
 use Rattle.octets.proofs.get_u64.Goals as goal
 
 pub returns : goal.returns
-returns c tie.Need-returns returns c = search joined-4
+returns c = search joined-4

@@ -4,7 +4,7 @@ use borrow.Author.Tests.{le-leb, lt-leb}
 use Rattle.octets.proofs.is_between.Goals as goal
 
 pub returns-then-first-x : goal.returns-then-first-x
-returns-then-first-x c tie.Need-returns returns c = rw (le-leb c.before.args.first c.before.args.x c.if1.true)
+returns-then-first-x c = rw (le-leb c.args.first c.args.x c.if-first-x.true)
 
 pub returns-else-first-x : goal.returns-else-first-x
-returns-else-first-x c tie.Need-returns-2 returns-2 c = rw (lt-leb c.before.args.first c.before.args.x c.if1.false)
+returns-else-first-x c = rw (lt-leb c.args.first c.args.x c.if-first-x.false)

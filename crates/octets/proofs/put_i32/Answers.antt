@@ -5,4 +5,4 @@ use Rattle.octets.proofs.Signed.{put-signed}
 use Rattle.octets.proofs.put_i32.Goals as goal
 
 pub returns : goal.returns
-returns c tie.Need-returns returns c = search (put-signed 4 w32)
+returns c = search (put-signed 4 w32)

@@ -7,8 +7,8 @@ use Rattle.octets.specs.Octets.{bytes}
 use Rattle.octets.proofs.put_u16.Goals as goal
 
 pub bounds-s-at-2 : goal.bounds-s-at-2
-bounds-s-at-2 c tie.Need-slice-write-s-2 slice-write-s-2 c = simp length-set (omega arith)
+bounds-s-at-2 c = simp length-set (omega arith)
 
 pub returns : goal.returns
 unfolding bytes
-returns c tie.Need-returns unfolding bytes returns c = rw add-one
+returns c = rw add-one

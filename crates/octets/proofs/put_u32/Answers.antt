@@ -4,4 +4,4 @@ use Rattle.octets.proofs.Laws.{stored}
 use Rattle.octets.proofs.put_u32.Goals as goal
 
 pub returns : goal.returns
-returns c tie.Need-returns returns c = search (stored 2 2)
+returns c = search (stored 2 2)

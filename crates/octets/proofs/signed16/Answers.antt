@@ -6,10 +6,10 @@ use Rattle.octets.proofs.Signed.{twos-is, upper_fits, upper-back}
 use Rattle.octets.proofs.signed16.Goals as goal
 
 pub overflow_sub-result-else-x-lt32768 : goal.overflow_sub-result-else-x-lt32768
-overflow_sub-result-else-x-lt32768 c tie.Need-overflow-sub-result-2 sub-result-2 c = upper_fits w16 c.before.args.x c.if1.false c.before.ranges.x
+overflow_sub-result-else-x-lt32768 c = upper_fits w16 c.args.x c.if-x-lt32768.false c.ranges.x
 
 pub returns-then-x-lt32768 : goal.returns-then-x-lt32768
-returns-then-x-lt32768 c tie.Need-returns returns c = sym (twos-is 2 w16 refl c.before.args.x)
+returns-then-x-lt32768 c = sym (twos-is 2 w16 refl c.args.x)
 
 pub returns-else-x-lt32768 : goal.returns-else-x-lt32768
-returns-else-x-lt32768 c tie.Need-returns-2 returns-2 c = upper-back w16 c.before.args.x c.if1.false c.before.ranges.x ∙ sym (twos-is 2 w16 refl c.before.args.x)
+returns-else-x-lt32768 c = upper-back w16 c.args.x c.if-x-lt32768.false c.ranges.x ∙ sym (twos-is 2 w16 refl c.args.x)

@@ -6,10 +6,10 @@ use Rattle.octets.proofs.Signed.{twos-is, upper_fits, upper-back}
 use Rattle.octets.proofs.signed32.Goals as goal
 
 pub overflow_sub-result-else-x-lt2147483648 : goal.overflow_sub-result-else-x-lt2147483648
-overflow_sub-result-else-x-lt2147483648 c tie.Need-overflow-sub-result-2 sub-result-2 c = upper_fits w32 c.before.args.x c.if1.false c.before.ranges.x
+overflow_sub-result-else-x-lt2147483648 c = upper_fits w32 c.args.x c.if-x-lt2147483648.false c.ranges.x
 
 pub returns-then-x-lt2147483648 : goal.returns-then-x-lt2147483648
-returns-then-x-lt2147483648 c tie.Need-returns returns c = sym (twos-is 4 w32 refl c.before.args.x)
+returns-then-x-lt2147483648 c = sym (twos-is 4 w32 refl c.args.x)
 
 pub returns-else-x-lt2147483648 : goal.returns-else-x-lt2147483648
-returns-else-x-lt2147483648 c tie.Need-returns-2 returns-2 c = upper-back w32 c.before.args.x c.if1.false c.before.ranges.x ∙ sym (twos-is 4 w32 refl c.before.args.x)
+returns-else-x-lt2147483648 c = upper-back w32 c.args.x c.if-x-lt2147483648.false c.ranges.x ∙ sym (twos-is 4 w32 refl c.args.x)

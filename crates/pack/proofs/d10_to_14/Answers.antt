@@ -5,11 +5,6 @@ use Rattle.pack.proofs.d10_to_14.Goals as goal
 
 pub returns : goal.returns
 unfolding total
-returns c tie.Need-returns unfolding total returns c =
-    let d14 = c.before.before in
-    let d13 = d14.before.before.before.before in
-    let d12 = d13.before.before.before.before in
-    let d11 = d12.before.before.before.before in
-    let d10 = d11.before.before.before.before in
-    onward (onward (onward (onward (λ _. d10.field4.ensures) d11.field42.ensures) d12.field43.ensures) d13.field44.ensures) d14.field2.ensures
-    d10.before.before.before.before.requires.held
+returns c =
+    onward (onward (onward (onward (λ _. c.field4-d11.ensures) c.field4-d12.ensures) c.field4-d13.ensures) c.field4-d14.ensures) c.field2.ensures
+    c.requires.held

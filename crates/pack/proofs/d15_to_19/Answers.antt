@@ -5,11 +5,6 @@ use Rattle.pack.proofs.d15_to_19.Goals as goal
 
 pub returns : goal.returns
 unfolding total
-returns c tie.Need-returns unfolding total returns c =
-    let d19 = c.before.before in
-    let d18 = d19.before.before.before.before in
-    let d17 = d18.before.before.before.before in
-    let d16 = d17.before.before.before.before in
-    let d15 = d16.before.before.before.before in
-    onward (onward (onward (onward (λ _. d15.field2.ensures) d16.field4.ensures) d17.field1.ensures) d18.field12.ensures) d19.field22.ensures
-    d15.before.before.before.before.requires.held
+returns c =
+    onward (onward (onward (onward (λ _. c.field2-d16.ensures) c.field4-d17.ensures) c.field1-d18.ensures) c.field1-d19.ensures) c.field2.ensures
+    c.requires.held

@@ -5,9 +5,6 @@ use Rattle.pack.proofs.d32_16_to_18.Goals as goal
 
 pub returns : goal.returns
 unfolding total
-returns c tie.Need-returns unfolding total returns c =
-    let d32-18 = c.before.before in
-    let d32-17 = d32-18.before.before.before.before in
-    let d32-16 = d32-17.before.before.before.before in
-    onward (onward (λ _. d32-16.field1.ensures) d32-17.field4.ensures) d32-18.field12.ensures
-    d32-16.before.before.before.before.requires.held
+returns c =
+    onward (onward (λ _. c.field1-d32_17.ensures) c.field4-d32_18.ensures) c.field1.ensures
+    c.requires.held

@@ -13,22 +13,16 @@ set = 0x0000_0001_8000_0000
 
 pub copy8-requires : goal.copy8-requires
 unfolding announced total
-copy8-requires c tie.Need-copy8-requires unfolding announced total copy8-requires c =
-    let all = c.before.before in
-    copied-needs set all.before.before.before.requires all.Has-All.ensures c.before.if1.true refl
+copy8-requires c =
+    copied-needs set c.requires c.Has-All.ensures c.if-has_all.true refl
 
 pub returns-then-has_all : goal.returns-then-has_all
 unfolding announced total
-returns-then-has_all c tie.Need-returns unfolding announced total returns c =
-    let copy = c.before.before in
-    let test = copy.before.before in
-    copied set test.before.Has-All.ensures test.if1.true refl copy.copy8.ensures
+returns-then-has_all c =
+    copied set c.Has-All.ensures c.if-has_all.true refl c.copy8.ensures
 
 pub returns-else-has_none : goal.returns-else-has_none
 unfolding total
-returns-else-has_none c tie.Need-returns-3 unfolding total returns-3 c =
-    let d32-3 = c.before.before in
-    let d32-2 = d32-3.before.before.before.before in
-    let all = d32-2.before.before.before.before.before in
-    onward (λ _. d32-2.field4.ensures) d32-3.field42.ensures
-    all.before.before.before.requires.held
+returns-else-has_none c =
+    onward (λ _. c.field4-d32_3.ensures) c.field4.ensures
+    c.requires.held

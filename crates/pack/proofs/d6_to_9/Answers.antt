@@ -5,10 +5,6 @@ use Rattle.pack.proofs.d6_to_9.Goals as goal
 
 pub returns : goal.returns
 unfolding total
-returns c tie.Need-returns unfolding total returns c =
-    let d9 = c.before.before in
-    let d8 = d9.before.before.before.before in
-    let d7 = d8.before.before.before.before in
-    let d6 = d7.before.before.before.before in
-    onward (onward (onward (λ _. d6.field4.ensures) d7.field42.ensures) d8.field43.ensures) d9.field44.ensures
-    d6.before.before.before.before.requires.held
+returns c =
+    onward (onward (onward (λ _. c.field4-d7.ensures) c.field4-d8.ensures) c.field4-d9.ensures) c.field4.ensures
+    c.requires.held

@@ -5,13 +5,10 @@ use Rattle.pack.proofs.field1.Goals as goal
 
 pub copy1-requires : goal.copy1-requires
 unfolding total
-copy1-requires c tie.Need-copy1-requires unfolding total copy1-requires c =
-    let has = c.before.before in
-    block_needs has.before.before.before.requires.2 (rw (← has.has.ensures, c.before.if1.true))
+copy1-requires c =
+    block_needs c.requires.2 (rw (← c.has.ensures, c.if-has.true))
 
 pub returns-then-has : goal.returns-then-has
 unfolding total
-returns-then-has c tie.Need-returns unfolding total returns c =
-    let copy = c.before.before in
-    let test = copy.before.before in
-    block (rw (← test.before.has.ensures, test.if1.true)) copy.copy1.ensures
+returns-then-has c =
+    block (rw (← c.has.ensures, c.if-has.true)) c.copy1.ensures

@@ -5,11 +5,6 @@ use Rattle.pack.proofs.target_fields.Goals as goal
 
 pub returns : goal.returns
 unfolding total
-returns c tie.Need-returns unfolding total returns c =
-    let d32-16-to-18 = c.before.before in
-    let d32-6-to-15 = d32-16-to-18.before.before.before.before in
-    let d32-4-and-5 = d32-6-to-15.before.before.before.before in
-    let d32-2-and-3 = d32-4-and-5.before.before.before.before in
-    let d32-1 = d32-2-and-3.before.before.before.before in
-    onward (onward (onward (onward (λ _. d32-1.field2.ensures) d32-2-and-3.d32-2-and-3.ensures) d32-4-and-5.d32-4-and-5.ensures) d32-6-to-15.d32-6-to-15.ensures) d32-16-to-18.d32-16-to-18.ensures
-    d32-1.before.before.before.before.requires.held
+returns c =
+    onward (onward (onward (onward (λ _. c.field2-d32_2.ensures) c.d32_2_and_3-d32_4.ensures) c.d32_4_and_5-d32_6.ensures) c.d32_6_to_15-d32_16.ensures) c.d32_16_to_18.ensures
+    c.requires.held

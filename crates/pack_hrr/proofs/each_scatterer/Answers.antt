@@ -29,36 +29,33 @@ within c =
     (omega arith, omega (arith, all, suc-mul l.i s.args.each, l.invariant, s.pre.3))
 
 pub loop-i-init : goal.loop-i-init
-loop-i-init c tie.Need-loop-init invariant-loop decreases-loop loop-holds c =
-    let a = c.before.before.args in
-    let e c a.count - 0 ≡ a.count = omega arith in
-    (omega arith, omega arith, omega arith, refl, ap (λ (n c ℕ). sets a.o.now 0 (narrowed_all (digits a.n) n a.x.now)) e)
+loop-i-init c =
+    let a = c.args in
+    let e : a.count - 0 ≡ a.count = omega arith in
+    (omega arith, omega arith, omega arith, refl, ap (λ (n : ℕ). sets a.o.now 0 (narrowed_all (digits a.n) n a.x.now)) e)
 
 pub scatterer-requires : goal.scatterer-requires
-scatterer-requires c tie.Need-scatterer-requires invariant-loop decreases-loop scatterer-requires c =
-    let turn = c.before.before in
-    let s = start turn in
-    let l = turn.before.loop in
-    let h = within turn in
+scatterer-requires c =
+    let s = start c in
+    let l = c.loop-i in
+    let h = within (goal.at.scatterer-requires c).In-loop-i in
     (s.pre.0, search rules, search rules)
 
 pub loop-i-preserved : goal.loop-i-preserved
 unfolding total
-loop-i-preserved c tie.Need-loop-preserved invariant-loop decreases-loop unfolding total loop-again c =
-    let stored = c.before.before in
-    let turn = stored.before.before.before in
-    let a = (start turn).args in
-    let l = turn.before.loop in
+loop-i-preserved c =
+    let a = (start c).args in
+    let l = c.loop-i in
     let ws = digits a.n in (
       omega arith,
       omega arith,
       omega arith,
       search rules,
-      all-next ws refl (all-narrow (start turn).requires.0) (a.count - l.i) (a.count - (l.i + 1)) l.at l.q _ a.x.now l.o _ (omega arith) (omega arith) (within turn).0 stored.scatterer.ensures l.invariant.4,
+      all-next ws refl (all-narrow (start c).requires.0) (a.count - l.i) (a.count - (l.i + 1)) l.at l.q _ a.x.now l.o _ (omega arith) (omega arith) (within (goal.at.loop-i-preserved c).In-loop-i).0 c.scatterer.ensures l.invariant.4,
     )
 
 pub returns : goal.returns
-returns c tie.Need-returns invariant-loop decreases-loop returns c =
-    let a = c.before.before.before.before.args in
-    let l = c.before.loop in
+returns c =
+    let a = c.args in
+    let l = c.loop-i in
     all-last (digits a.n) (a.count - l.i) l.at l.q a.x.now l.o _ (omega arith) l.invariant.4

@@ -6,12 +6,6 @@ use Rattle.pack_hrr.proofs.h14_to_19.Goals as goal
 
 pub returns : goal.returns
 unfolding total
-returns c tie.Need-returns unfolding total returns c =
-    let h19 = c.before.before in
-    let h18 = h19.before.before.before.before in
-    let h17 = h18.before.before.before.before in
-    let h16 = h17.before.before.before.before in
-    let h15 = h16.before.before.before.before in
-    let h14 = h15.before.before.before.before in
-    onward (onward (onward (onward (onward (λ _. h14.field4.ensures) h15.field42.ensures) h16.field1.ensures) h17.field12.ensures) h18.field13.ensures) h19.field2.ensures
-    h14.before.before.before.before.requires.held
+returns c =
+    onward (onward (onward (onward (onward (λ _. c.field4-h15.ensures) c.field4-h16.ensures) c.field1-h17.ensures) c.field1-h18.ensures) c.field1-h19.ensures) c.field2.ensures
+    c.requires.held

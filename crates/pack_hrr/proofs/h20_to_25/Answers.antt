@@ -6,12 +6,6 @@ use Rattle.pack_hrr.proofs.h20_to_25.Goals as goal
 
 pub returns : goal.returns
 unfolding total
-returns c tie.Need-returns unfolding total returns c =
-    let h25 = c.before.before in
-    let h24 = h25.before.before.before.before in
-    let h23 = h24.before.before.before.before in
-    let h22 = h23.before.before.before.before in
-    let h21 = h22.before.before.before.before in
-    let h20 = h21.before.before.before.before in
-    onward (onward (onward (onward (onward (λ _. h20.field1.ensures) h21.field2.ensures) h22.field4.ensures) h23.field12.ensures) h24.field13.ensures) h25.field14.ensures
-    h20.before.before.before.before.requires.held
+returns c =
+    onward (onward (onward (onward (onward (λ _. c.field1-h21.ensures) c.field2-h22.ensures) c.field4-h23.ensures) c.field1-h24.ensures) c.field1-h25.ensures) c.field1.ensures
+    c.requires.held

@@ -6,12 +6,6 @@ use Rattle.pack_hrr.proofs.h26_to_31.Goals as goal
 
 pub returns : goal.returns
 unfolding total
-returns c tie.Need-returns unfolding total returns c =
-    let h31 = c.before.before in
-    let h30 = h31.before.before.before.before in
-    let h29 = h30.before.before.before.before in
-    let h28 = h29.before.before.before.before in
-    let h27 = h28.before.before.before.before in
-    let h26 = h27.before.before.before.before in
-    onward (onward (onward (onward (onward (λ _. h26.field1.ensures) h27.field12.ensures) h28.field4.ensures) h29.field13.ensures) h30.field42.ensures) h31.field43.ensures
-    h26.before.before.before.before.requires.held
+returns c =
+    onward (onward (onward (onward (onward (λ _. c.field1-h27.ensures) c.field1-h28.ensures) c.field4-h29.ensures) c.field1-h30.ensures) c.field4-h31.ensures) c.field4.ensures
+    c.requires.held

@@ -5,6 +5,5 @@ use Rattle.pack_hrr.proofs.Narrowed.{last-is}
 use Rattle.pack_hrr.proofs.narrow.Goals as goal
 
 pub returns : goal.returns
-returns c tie.Need-returns returns c =
-    let s = c.before.before in
-    (c.get.ensures.0, c.get.ensures.1 ∙ last-is s.args.w s.args.at s.args.x.now s.requires.0)
+returns c =
+    (c.get.ensures.0, c.get.ensures.1 ∙ last-is c.args.w c.args.at c.args.x.now c.requires.0)

@@ -13,14 +13,12 @@ use Rattle.pack_hrr.proofs.scatterer.Goals as goal
 use Rattle.pack_hrr.proofs.scatterer.Goals.{After-join-first, After-join-last}
 
 pub join-first-requires : goal.join-first-requires
-join-first-requires c tie.Need-join-requires join-requires c =
-    let s = c.before.before.before.before in
-    (omega (arith, s.requires), c.before.narrow.ensures.0, half (s.args.n / 100 % 10) (omega (arith, s.requires)) c.narrow2.ensures)
+join-first-requires c =
+    (omega (arith, c.requires), c.narrow.ensures.0, half (c.args.n / 100 % 10) (omega (arith, c.requires)) c.narrow-2.ensures)
 
 pub join-last-requires : goal.join-last-requires
-join-last-requires c tie.Need-join-requires-2 join-requires-2 c =
-    let s = c.before.before.before.before.before.before.before in
-    (omega (arith, s.requires), c.before.narrow3.ensures.0, half (s.args.n % 10) (omega (arith, s.requires)) c.narrow4.ensures)
+join-last-requires c =
+    (omega (arith, c.requires), c.narrow-3.ensures.0, half (c.args.n % 10) (omega (arith, c.requires)) c.narrow-4.ensures)
 
 -- magnitude and phase, and the indices
 first_two : (c : After-join-first) → let a = c.args in
@@ -36,25 +34,17 @@ last-two c =
     joined (n / 10 % 10) (n % 10) c.narrow-3.ensures c.narrow-4.ensures c.join-last.ensures
 
 pub join-requires : goal.join-requires
-join-requires c tie.Need-join-requires-3 join-requires-3 c =
-    let indices = c.before in
-    let first = indices.before.before.before in
-    let s = first.before.before.before.before.before in
-    (omega (arith, s.requires), (first_two first).0, half (s.args.n / 10 % 10 + s.args.n % 10) (omega (arith, s.requires)) (last-two indices))
+join-requires c =
+    (omega (arith, c.requires), (first_two (goal.at.join-requires c).After-join-first).0, half (c.args.n / 10 % 10 + c.args.n % 10) (omega (arith, c.requires)) (last-two (goal.at.join-requires c).After-join-last))
 
 pub put_below_8-requires : goal.put_below_8-requires
 unfolding total
-put_below_8-requires c tie.Need-put-below-8-requires unfolding total put-below-8-requires c =
-    let s = c.before.before.before.before.before.before.before.before.before.before in
-    (omega (arith, s.requires), omega (arith, s.requires))
+put_below_8-requires c =
+    (omega (arith, c.requires), omega (arith, c.requires))
 
 pub returns : goal.returns
-returns c tie.Need-returns returns c =
-    let stored = c.before.before in
-    let all = stored.before in
-    let indices = all.before.before in
-    let first = indices.before.before.before in
-    let a = first.before.before.before.before.before.args in
+returns c =
+    let a = c.args in
     let n = a.n in
-    let word = joined (n / 1000 + n / 100 % 10) (n / 10 % 10 + n % 10) (first_two first) (last-two indices) all.join3.ensures in
-    stored.put-below-8.ensures ∙ ap (sets a.o.now 0) (word.1 ∙ four-last (n / 1000) (n / 100 % 10) (n / 10 % 10) (n % 10) a.x.now)
+    let word = joined (n / 1000 + n / 100 % 10) (n / 10 % 10 + n % 10) (first_two (goal.at.returns c).After-join-first) (last-two (goal.at.returns c).After-join-last) c.join.ensures in
+    c.put_below_8.ensures ∙ ap (sets a.o.now 0) (word.1 ∙ four-last (n / 1000) (n / 100 % 10) (n / 10 % 10) (n % 10) a.x.now)

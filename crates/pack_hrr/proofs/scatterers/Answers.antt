@@ -14,8 +14,8 @@ use Rattle.pack_hrr.proofs.scatterers.Goals as goal
 use Rattle.pack_hrr.proofs.scatterers.Goals.{After-pattern_of-n}
 
 pub each_of-each-requires : goal.each_of-each-requires
-each_of-each-requires c tie.Need-each-of-requires each-of-requires c =
-    let h = c.before.before.requires.0 in
+each_of-each-requires c =
+    let h = c.requires.0 in
     (omega (arith, h.0), omega (arith, h.1), omega (arith, h.2), omega (arith, h.3))
 
 -- room for so many of a size that is known

@@ -5,7 +5,7 @@ use Rattle.position.proofs.Rounding.{half-neg, half_pos}
 use Rattle.position.proofs.half.Goals as goal
 
 pub returns-then-y-lt0 : goal.returns-then-y-lt0
-returns-then-y-lt0 c tie.Need-returns returns c = let f = c.before.ranges.y in half-neg c.before.args.y (simp to_z-of_z at c.if1.true)
+returns-then-y-lt0 c = let f = c.ranges.y in half-neg c.args.y (simp to_z-of_z at c.if-y-lt0.true)
 
 pub returns-else-y-lt0 : goal.returns-else-y-lt0
-returns-else-y-lt0 c tie.Need-returns-2 returns-2 c = let f = c.before.ranges.y in half_pos c.before.args.y (simp to_z-of_z at c.if1.false)
+returns-else-y-lt0 c = let f = c.ranges.y in half_pos c.args.y (simp to_z-of_z at c.if-y-lt0.false)

@@ -8,4 +8,4 @@ use Rattle.position.proofs.is_always_latitude.Goals as goal
 
 pub returns : goal.returns
 unfolding is_always_latitude
-returns c tie.Need-returns unfolding is_always_latitude returns c = ap₂ (λ (m n c ℕ). leb (m * 2 ^ 15 + n) (2 ^ 31)) c.before.unsigned.ensures c.unsigned2.ensures
+returns c = ap₂ (λ (m n : ℕ). leb (m * 2 ^ 15 + n) (2 ^ 31)) c.unsigned.ensures c.unsigned-2.ensures

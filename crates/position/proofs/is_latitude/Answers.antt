@@ -13,13 +13,11 @@ fits-at : (c : Start) → SFits w64 c.args.x.0
 fits-at c = search rules
 
 pub returns-then-x-geminus2147483648 : goal.returns-then-x-geminus2147483648
-returns-then-x-geminus2147483648 c tie.Need-returns returns c =
-    let s = c.before.before.before.before.before in
-    let f c SFits w64 s.args.x.0 = fits-at s in
-    simp to_z-of_z (from-least s.args.x.0 (simp to_z-of_z at c.before.before.if1.true))
+returns-then-x-geminus2147483648 c =
+    let f : SFits w64 c.args.x.0 = fits-at (goal.at.returns-then-x-geminus2147483648 c).Start in
+    simp to_z-of_z (from-least c.args.x.0 (simp to_z-of_z at c.if-x-geminus2147483648.true))
 
 pub returns-else-x-geminus2147483648 : goal.returns-else-x-geminus2147483648
-returns-else-x-geminus2147483648 c tie.Need-returns-2 returns-2 c =
-    let s = c.before.before.before in
-    let f c SFits w64 s.args.x.0 = fits-at s in
-    simp to_z-of_z (below-least s.args.x.0 (simp to_z-of_z at c.if1.false))
+returns-else-x-geminus2147483648 c =
+    let f : SFits w64 c.args.x.0 = fits-at (goal.at.returns-else-x-geminus2147483648 c).Start in
+    simp to_z-of_z (below-least c.args.x.0 (simp to_z-of_z at c.if-x-geminus2147483648.false))

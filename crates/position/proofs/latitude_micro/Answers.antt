@@ -16,16 +16,16 @@ size-at : (c : Start) → nat_abs c.args.x.0 ≤ 2 ^ 31
 size-at c = latitude-size c.args.x.0 c.requires
 
 pub overflow_mul-y : goal.overflow_mul-y
-overflow_mul-y c tie.Need-overflow-mul-y mul-y c = let (x64, y64, h64, s64, r64, r32) = scale-fits c.before.before.args.x.0 (size-at c.before.before) in simp to_z-of_z y64
+overflow_mul-y c = let (x64, y64, h64, s64, r64, r32) = scale-fits c.args.x.0 (size-at (goal.at.overflow_mul-y c).Start) in simp to_z-of_z y64
 
 pub overflow_add-result : goal.overflow_add-result
-overflow_add-result c tie.Need-overflow-add-result add-result c = sum_fits c.before.before.before.args.x.0 c.half.result (size-at c.before.before.before) (sfits_of {w = w64} {z = c.half.result} c.half.type-inv) c.half.ensures
+overflow_add-result c = sum_fits c.args.x.0 c.half.result (size-at (goal.at.overflow_add-result c).Start) (sfits_of {w = w64} {z = c.half.result} c.half.type_inv) c.half.ensures
 
 pub nonzero_div-result : goal.nonzero_div-result
-nonzero_div-result c tie.Need-nonzero-div-result div-result c = (omega arith, quotient_fits c.before.before.before.args.x.0 c.half.result (size-at c.before.before.before) (sfits_of {w = w64} {z = c.half.result} c.half.type-inv) c.half.ensures)
+nonzero_div-result c = (omega arith, quotient_fits c.args.x.0 c.half.result (size-at (goal.at.nonzero_div-result c).Start) (sfits_of {w = w64} {z = c.half.result} c.half.type_inv) c.half.ensures)
 
 pub overflow_cast-result : goal.overflow_cast-result
-overflow_cast-result c tie.Need-overflow-cast-result cast-result c = result_fits c.before.before.before.args.x.0 c.half.result (size-at c.before.before.before) (sfits_of {w = w64} {z = c.half.result} c.half.type-inv) c.half.ensures
+overflow_cast-result c = result_fits c.args.x.0 c.half.result (size-at (goal.at.overflow_cast-result c).Start) (sfits_of {w = w64} {z = c.half.result} c.half.type_inv) c.half.ensures
 
 pub returns : goal.returns
-returns c tie.Need-returns returns c = result-is c.before.before.before.args.x.0 c.half.result (size-at c.before.before.before) (sfits_of {w = w64} {z = c.half.result} c.half.type-inv) c.half.ensures
+returns c = result-is c.args.x.0 c.half.result (size-at (goal.at.returns c).Start) (sfits_of {w = w64} {z = c.half.result} c.half.type_inv) c.half.ensures

@@ -8,10 +8,10 @@ use Rattle.position.proofs.Size.{size-of}
 use Rattle.position.proofs.latitude_steps.Goals as goal
 
 pub overflow_cast-result : goal.overflow_cast-result
-overflow_cast-result c tie.Need-overflow-cast-t2 cast-t2 c = let f = c.ranges.x in simp to_z-of_z (sfits_widen {w = w32} {w' = w64} tt f)
+overflow_cast-result c = let f = c.ranges.x in simp to_z-of_z (sfits_widen {w = w32} {w' = w64} tt f)
 
 pub returns : goal.returns
-returns c tie.Need-returns returns c =
+returns c =
     let f = c.ranges.x in
-    let g c SFits w64 c.args.x = sfits_widen {w = w32} {w' = w64} tt f in
+    let g : SFits w64 c.args.x = sfits_widen {w = w32} {w' = w64} tt f in
     simp to_z-of_z (refl, size-of {w = w32} f)

@@ -17,13 +17,13 @@ known c =
     (c.ranges.delta, k.0, k.1, k.2, k.3, k.4)
 
 pub overflow_cast-result : goal.overflow_cast-result
-overflow_cast-result c tie.Need-overflow-cast-t4 cast-t4 c = let (d16, d64, s64, f64, p64, t64) = known c in simp to_z-of_z d64
+overflow_cast-result c = let (d16, d64, s64, f64, p64, t64) = known (goal.at.overflow_cast-result c).Start in simp to_z-of_z d64
 
 pub overflow_mul-result : goal.overflow_mul-result
-overflow_mul-result c tie.Need-overflow-mul-t5 mul-t5 c = let (d16, d64, s64, f64, p64, t64) = known c.before.before in simp to_z-of_z p64
+overflow_mul-result c = let (d16, d64, s64, f64, p64, t64) = known (goal.at.overflow_mul-result c).Start in simp to_z-of_z p64
 
 pub overflow_add-result : goal.overflow_add-result
-overflow_add-result c tie.Need-overflow-add-t6 add-t6 c = let (d16, d64, s64, f64, p64, t64) = known c.before.before.before.before in simp to_z-of_z t64
+overflow_add-result c = let (d16, d64, s64, f64, p64, t64) = known (goal.at.overflow_add-result c).Start in simp to_z-of_z t64
 
 pub returns : goal.returns
-returns c tie.Need-returns returns c = let (d16, d64, s64, f64, p64, t64) = known c.before.before.before.before in simp to_z-of_z
+returns c = let (d16, d64, s64, f64, p64, t64) = known (goal.at.returns c).Start in simp to_z-of_z

@@ -4,7 +4,7 @@ use Rattle.position.proofs.Rounding.{full-circle, within-circle}
 use Rattle.position.proofs.longitude_micro.Goals as goal
 
 pub returns-then-m-eq360000000 : goal.returns-then-m-eq360000000
-returns-then-m-eq360000000 c tie.Need-returns returns c = full-circle c.before.before.args.x.0 c.if1.true
+returns-then-m-eq360000000 c = full-circle c.args.x.0 c.if-m-eq360000000.true
 
 pub returns-else-m-eq360000000 : goal.returns-else-m-eq360000000
-returns-else-m-eq360000000 c tie.Need-returns-2 returns-2 c = within-circle c.before.before.args.x.0 c.if1.false
+returns-else-m-eq360000000 c = within-circle c.args.x.0 c.if-m-eq360000000.false

@@ -22,24 +22,24 @@ known c =
     (c.ranges.delta, k.0, omega arith, omega arith, k.3, k.4, k.5, lift-fits (z-of c) k.5)
 
 pub overflow_cast-z : goal.overflow_cast-z
-overflow_cast-z c tie.Need-overflow-cast-z cast-z c = let (d16, d64, s, f, p64, t64, t, l64) = known c in simp to_z-of_z d64
+overflow_cast-z c = let (d16, d64, s, f, p64, t64, t, l64) = known (goal.at.overflow_cast-z c).Start in simp to_z-of_z d64
 
 pub overflow_mul-z : goal.overflow_mul-z
-overflow_mul-z c tie.Need-overflow-mul-z mul-z c = let (d16, d64, s, f, p64, t64, t, l64) = known c.before in simp (to_z-of_z, to_z_pos) p64
+overflow_mul-z c = let (d16, d64, s, f, p64, t64, t, l64) = known (goal.at.overflow_mul-z c).Start in simp (to_z-of_z, to_z_pos) p64
 
 pub overflow_add-z : goal.overflow_add-z
-overflow_add-z c tie.Need-overflow-add-z add-z c = let (d16, d64, s, f, p64, t64, t, l64) = known c.before.before in simp (to_z-of_z, to_z_pos) t64
+overflow_add-z c = let (d16, d64, s, f, p64, t64, t, l64) = known (goal.at.overflow_add-z c).Start in simp (to_z-of_z, to_z_pos) t64
 
 pub overflow_add-result : goal.overflow_add-result
-overflow_add-result c tie.Need-overflow-add-t5 add-t5 c = let (d16, d64, s, f, p64, t64, t, l64) = known c.before.before in simp (to_z-of_z, to_z_pos) l64
+overflow_add-result c = let (d16, d64, s, f, p64, t64, t, l64) = known (goal.at.overflow_add-result c).Start in simp (to_z-of_z, to_z_pos) l64
 
 pub overflow_cast-result : goal.overflow_cast-result
-overflow_cast-result c tie.Need-overflow-cast-t9 cast-t9 c =
-    let (d16, d64, s, f, p64, t64, t, l64) = known c.before.before in
-    simp (to_z-of_z, to_z_pos) (lift-cast (z-of c.before.before) t)
+overflow_cast-result c =
+    let (d16, d64, s, f, p64, t64, t, l64) = known (goal.at.overflow_cast-result c).Start in
+    simp (to_z-of_z, to_z_pos) (lift-cast (z-of c) t)
 
 pub returns : goal.returns
 unfolding longitude_sum
-returns c tie.Need-returns unfolding longitude_sum returns c =
-    let (d16, d64, s, f, p64, t64, t, l64) = known c.before.before in
-    simp (to_z-of_z, to_z_pos) (lift-reduced (z-of c.before.before) t)
+returns c =
+    let (d16, d64, s, f, p64, t64, t, l64) = known (goal.at.returns c).Start in
+    simp (to_z-of_z, to_z_pos) (lift-reduced (z-of c) t)

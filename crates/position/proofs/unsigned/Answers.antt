@@ -23,13 +23,13 @@ known : (c : After-struct_told-then-x-lt0-1) → Negated c.args.x.0
 known c = negated c.args.x.0 c.requires (tested (goal.at.After-struct_told-then-x-lt0-1 c).Start c.if-x-lt0.true)
 
 pub overflow_sub-result : goal.overflow_sub-result
-overflow_sub-result c tie.Need-overflow-sub-result sub-result c = let f = fits-at c.before.before.before.before.before in simp to_z-of_z (known c).0
+overflow_sub-result c = let f = fits-at (goal.at.overflow_sub-result c).Start in simp to_z-of_z (known (goal.at.overflow_sub-result c).After-struct_told-then-x-lt0-1).0
 
 pub overflow_cast-result : goal.overflow_cast-result
-overflow_cast-result c tie.Need-overflow-cast-result cast-result c = let f = fits-at c.before.before.before.before.before in let n = (known c).0 in simp to_z-of_z ((known c).1, (known c).2)
+overflow_cast-result c = let f = fits-at (goal.at.overflow_cast-result c).Start in let n = (known (goal.at.overflow_cast-result c).After-struct_told-then-x-lt0-1).0 in simp to_z-of_z ((known (goal.at.overflow_cast-result c).After-struct_told-then-x-lt0-1).1, (known (goal.at.overflow_cast-result c).After-struct_told-then-x-lt0-1).2)
 
 pub overflow_cast-result-else-x-lt0 : goal.overflow_cast-result-else-x-lt0
-overflow_cast-result-else-x-lt0 c tie.Need-overflow-cast-result-2 cast-result-2 c = let s = c.before.before.before.before.before in let f = fits-at s in simp to_z-of_z (unsigned-fits s.args.x.0 s.requires (tested s c.before.before.if1.false))
+overflow_cast-result-else-x-lt0 c = let f = fits-at (goal.at.overflow_cast-result-else-x-lt0 c).Start in simp to_z-of_z (unsigned-fits c.args.x.0 c.requires (tested (goal.at.overflow_cast-result-else-x-lt0 c).Start c.if-x-lt0.false))
 
 pub returns-then-x-lt0 : goal.returns-then-x-lt0
-returns-then-x-lt0 c tie.Need-returns returns c = let f = fits-at c.before.before.before.before.before in let n = (known c).0 in simp to_z-of_z (known c).3
+returns-then-x-lt0 c = let f = fits-at (goal.at.returns-then-x-lt0 c).Start in let n = (known (goal.at.returns-then-x-lt0 c).After-struct_told-then-x-lt0-1).0 in simp to_z-of_z (known (goal.at.returns-then-x-lt0 c).After-struct_told-then-x-lt0-1).3

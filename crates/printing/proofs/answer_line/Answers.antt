@@ -9,9 +9,7 @@ use Rattle.printing.proofs.answer_line.Goals as goal
 
 pub returns : goal.returns
 unfolding answer_line
-returns c tie.Need-returns unfolding answer_line returns c =
-    let put = c.before.before in
-    let start = put.before.before.before in
-    let e = put.put-answer.ensures in
-    let h = laid-byte (answer_text start.args.a) start.args.o.now 0 10 (e.0.0, e.1) in
+returns c =
+    let e = c.put_answer-p.ensures in
+    let h = laid-byte (answer_text c.args.a) c.args.o.now 0 10 (e.0.0, e.1) in
     ((h.0 ∙ zero-add _, omega arith), h.1)

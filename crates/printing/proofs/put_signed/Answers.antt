@@ -20,13 +20,9 @@ other : (c : Else-z-lt0) → Plain c.args.z
 other c = plain c.args.z c.ranges.z (rw (back (goal.at.Else-z-lt0 c).Start) at c.if-z-lt0.false)
 
 pub returns-then-z-lt0 : goal.returns-then-z-lt0
-returns-then-z-lt0 c tie.Need-returns returns c =
-    let put = c.before.before in
-    let negative = put.before.before in
-    put-sign _ _ _ _ (known negative) (rw (back negative.before.before) at put.put-decimal.ensures)
+returns-then-z-lt0 c =
+    put-sign _ _ _ _ (known (goal.at.returns-then-z-lt0 c).Then-z-lt0) (rw (back (goal.at.returns-then-z-lt0 c).Start) at c.put_decimal.ensures)
 
 pub returns-else-z-lt0 : goal.returns-else-z-lt0
-returns-else-z-lt0 c tie.Need-returns-2 returns-2 c =
-    let put = c.before.before in
-    let plain = put.before.before in
-    put-plain _ _ _ (other plain) (rw (back plain.before.before) at put.put-decimal2.ensures)
+returns-else-z-lt0 c =
+    put-plain _ _ _ (other (goal.at.returns-else-z-lt0 c).Else-z-lt0) (rw (back (goal.at.returns-else-z-lt0 c).Start) at c.put_decimal-else-z-lt0.ensures)

@@ -4,7 +4,5 @@ use Rattle.printing.proofs.Lines.{put-space}
 use Rattle.printing.proofs.put_spaced.Goals as goal
 
 pub returns : goal.returns
-returns c tie.Need-returns returns c =
-    let put = c.before.before in
-    let start = put.before.before.before in
-    put-space _ _ _ start.ranges.n.fits put.put-decimal.ensures
+returns c =
+    put-space _ _ _ c.ranges.n.fits c.put_decimal.ensures

@@ -12,8 +12,6 @@ use Rattle.printing.proofs.target_line.Goals as goal
 
 pub returns : goal.returns
 unfolding total body_length
-returns c tie.Need-returns unfolding total body_length returns c =
-    let second = c.before.before in
-    let first = second.before.before.before.before.before in
-    let latitude = first.before.get-i32 in
-    put-within (put-target _ _ first.before.before.before.before.before.args.b.now (to_z-of_z (sfits_of {w = w32} latitude.type-inv) ∙ latitude.ensures) second.before.get-u32.ensures first.put-signed.ensures second.put-spaced.ensures) (omega arith)
+returns c =
+    let latitude = c.get_i32 in
+    put-within (put-target _ _ c.args.b.now (to_z-of_z (sfits_of {w = w32} latitude.type_inv) ∙ latitude.ensures) c.get_u32.ensures c.put_signed-p.ensures c.put_spaced-q.ensures) (omega arith)

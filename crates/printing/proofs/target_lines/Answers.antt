@@ -16,25 +16,19 @@ here : (c : In-Whole)
 here c = at_place _ _ c.record_at.ensures c.in-Whole.is
 
 pub record_line-p-requires : goal.record_line-p-requires
-record_line-p-requires c tie.Need-record-line-requires invariant-loop decreases-loop record-line-requires c =
-    let told = c.before.before in
-    let turn = told.before.before.before.before in
-    let w = here told in
-    let l = turn.loop.invariant.laid in
-    (omega (arith, l.room, put_same l, body-ends w, w.fits, turn.before.before.before.requires), w.formed.length_is)
+record_line-p-requires c =
+    let w = here (goal.at.record_line-p-requires c).In-Whole in
+    let l = c.loop-kind.invariant.laid in
+    (omega (arith, l.room, put_same l, body-ends w, w.fits, c.requires), w.formed.length_is)
 
 pub loop-kind-preserved : goal.loop-kind-preserved
-loop-kind-preserved c tie.Need-loop-preserved invariant-loop decreases-loop loop-again c =
-    let line = c.before.before in
-    let told = line.before.before.before in
-    walk_turn told.before.before.before.before.loop.invariant (here told) line.record-line.ensures
+loop-kind-preserved c =
+    walk_turn c.loop-kind.invariant (here (goal.at.loop-kind-preserved c).In-Whole) c.record_line-p.ensures
 
 pub returns-in-End : goal.returns-in-End
-returns-in-End c tie.Need-returns invariant-loop decreases-loop returns c =
-    let turn = c.before.before.before in
-    walk_end turn.loop.invariant (at_place _ _ c.before.before.record-at.ensures c.enum_told.given.1)
+returns-in-End c =
+    walk_end c.loop-kind.invariant (at_place _ _ c.record_at.ensures c.in-End.is)
 
 pub returns-in-Cut : goal.returns-in-Cut
-returns-in-Cut c tie.Need-returns-2 invariant-loop decreases-loop returns-2 c =
-    let turn = c.before.before.before in
-    walk_end turn.loop.invariant (at_place _ _ c.before.before.record-at.ensures c.enum-told2.given.1)
+returns-in-Cut c =
+    walk_end c.loop-kind.invariant (at_place _ _ c.record_at.ensures c.in-Cut.is)

@@ -7,7 +7,7 @@ use borrow.Author.Tests.{eq-eqb, ne_eqb}
 use Rattle.readback.proofs.differs.Goals as goal
 
 pub returns-then-x-y : goal.returns-then-x-y
-returns-then-x-y c tie.Need-returns returns c = let a = c.before.args in sym (ap (λ (t c Bool). cond {A = ℕ} t 0 1) (eq-eqb a.x a.y c.if1.true))
+returns-then-x-y c = let a = c.args in sym (ap (λ (t : Bool). cond {A = ℕ} t 0 1) (eq-eqb a.x a.y c.if-x-y.true))
 
 pub returns-else-x-y : goal.returns-else-x-y
-returns-else-x-y c tie.Need-returns-2 returns-2 c = let a = c.before.args in sym (ap (λ (t c Bool). cond {A = ℕ} t 0 1) (ne_eqb a.x a.y c.if1.false))
+returns-else-x-y c = let a = c.args in sym (ap (λ (t : Bool). cond {A = ℕ} t 0 1) (ne_eqb a.x a.y c.if-x-y.false))

@@ -8,7 +8,7 @@ use Rattle.format.specs.Writer.{is_same}
 use Rattle.readback.proofs.is_front.Goals as goal
 
 pub returns : goal.returns
-returns c tie.Need-returns returns c =
-    let a = c.before.before.before.before.args in
-    let e c length a.x.now - 0 ≡ length a.x.now = omega arith in
-    c.same.ensures ∙ ap (λ (n c ℕ). is_same (take n a.window.now) a.x.now) e
+returns c =
+    let a = c.args in
+    let e : length a.x.now - 0 ≡ length a.x.now = omega arith in
+    c.same.ensures ∙ ap (λ (n : ℕ). is_same (take n a.window.now) a.x.now) e

@@ -34,58 +34,47 @@ within : (c : After-plan_of-p) → c.plan_of-p.result.start ≤ length c.args.b.
 within c = start-within c.args.b.now (taken (goal.at.After-plan_of-p c).Start) c.plan_of-p.result c.plan_of-p.ensures.0
 
 pub get_u64-mask-requires : goal.get_u64-mask-requires
-get_u64-mask-requires c tie.Need-get-u64-requires get-u64-requires c = let s = c.before.before.before in omega (arith, (headed s.args.b.now (taken s) refl).2)
+get_u64-mask-requires c = omega (arith, (headed c.args.b.now (taken (goal.at.get_u64-mask-requires c).Start) refl).2)
 
 pub plan_of-p-requires : goal.plan_of-p-requires
-plan_of-p-requires c tie.Need-plan-of-requires plan-of-requires c = head c
+plan_of-p-requires c = head (goal.at.plan_of-p-requires c).After-get_u64-mask
 
 pub dwell_record-requires : goal.dwell_record-requires
-dwell_record-requires c tie.Need-dwell-record-requires dwell-record-requires c =
-    let mask = c.before.before in
-    (head mask, omega (arith, mask.before.before.before.before.requires.2))
+dwell_record-requires c =
+    (head (goal.at.dwell_record-requires c).After-get_u64-mask, omega (arith, c.requires.2))
 
 pub returns-then-not-is_front : goal.returns-then-not-is_front
 unfolding dwell_records
-returns-then-not-is_front c tie.Need-returns unfolding dwell_records returns c =
-    let laid = c.before.before.before.before.before.before in
-    let s = laid.before.before.before.before.before.before.before in
-    let a = s.args in
-    record-differs (dwell_record a.r a.b.now) _ a.x.now a.window.now _ (record_length 3) laid.dwell-record.ensures (dwell-length a.r a.b.now) (omega (arith, s.requires.2)) (omega (arith, s.requires.1)) c.before.is_front.ensures (not-true _ c.if1.true)
+returns-then-not-is_front c =
+    let a = c.args in
+    record-differs (dwell_record a.r a.b.now) _ a.x.now a.window.now _ (record_length 3) c.dwell_record.ensures (dwell-length a.r a.b.now) (omega (arith, c.requires.2)) (omega (arith, c.requires.1)) c.is_front.ensures (not-true _ c.if-not-is_front.true-raw)
 
 pub slice_bounds-same_targets-count : goal.slice_bounds-same_targets-count
-slice_bounds-same_targets-count c tie.Need-overflow-sub-same-targets sub-same-targets c = within c.before.before.before.before.before.before.before.before
+slice_bounds-same_targets-count c = within (goal.at.slice_bounds-same_targets-count c).After-plan_of-p
 
 pub slice_bounds-same_targets-start : goal.slice_bounds-same_targets-start
-slice_bounds-same_targets-start c tie.Need-slice-bounds-same-targets-start part-same-targets-start c = omega (arith, within c.before.before.before.before.before.before.before.before)
+slice_bounds-same_targets-start c = omega (arith, within (goal.at.slice_bounds-same_targets-start c).After-plan_of-p)
 
 pub same_targets-requires : goal.same_targets-requires
-same_targets-requires c tie.Need-same-targets-requires same-targets-requires c =
-    let laid = c.before.before.before.before.before.before.before.before.before in
-    let plan = laid.before.before in
-    let p = plan.plan-of in
-    let s = plan.before.before.before.before.before in
-    let b = s.args.b.now in
-    let k = taken s in (
+same_targets-requires c =
+    let p = c.plan_of-p in
+    let b = c.args.b.now in
+    let k = taken (goal.at.same_targets-requires c).Start in (
       targets-stand b k p.result p.ensures.0 p.ensures.1,
-      sym (left-length (record_length 3) _ s.args.x.now (omega (arith, s.requires.1, ap (λ (q c Plan). q.count) p.ensures.0))),
+      sym (left-length (record_length 3) _ c.args.x.now (omega (arith, c.requires.1, ap (λ (q : Plan). q.count) p.ensures.0))),
       targets-pass b k p.result p.ensures.0,
-      omega (arith, s.requires.2, laid.dwell-record.auto),
+      omega (arith, c.requires.2, c.dwell_record.auto),
     )
 
 pub returns : goal.returns
 unfolding dwell_records
-returns c tie.Need-returns-2 unfolding dwell_records returns-2 c =
-    let targets = c.before.before in
-    let test = targets.before.before.before.before in
-    let laid = test.before.before.before.before.before.before in
-    let plan = laid.before.before in
-    let s = plan.before.before.before.before.before in
-    let a = s.args in
+returns c =
+    let a = c.args in
     let b = a.b.now in
-    let p = plan.plan-of in
+    let p = c.plan_of-p in
     let y = take (length a.x.now - record_length 3) (drop (record_length 3) a.x.now) in
     let rest =
-    ap (λ (t c List ℕ). target_records p.result.mask p.result.area p.result.count t) (targets_are b p.result p.ensures.0)
-    ∙ ap (λ (q c Plan). target_records q.mask q.area q.count (targets_of b)) p.ensures.0 in
-    record_same (dwell_record a.r b) _ a.x.now a.window.now _ (record_length 3) laid.dwell-record.ensures (dwell-length a.r b) (omega (arith, s.requires.2)) (omega (arith, s.requires.1)) test.before.is_front.ensures y (not-false _ test.if1.false) (tail-is (record_length 3) a.x.now)
-    (targets.same-targets.ensures ∙ ap (λ (rs c List Record). is_same (record_bytes rs) y) rest)
+    ap (λ (t : List ℕ). target_records p.result.mask p.result.area p.result.count t) (targets_are b p.result p.ensures.0)
+    ∙ ap (λ (q : Plan). target_records q.mask q.area q.count (targets_of b)) p.ensures.0 in
+    record_same (dwell_record a.r b) _ a.x.now a.window.now _ (record_length 3) c.dwell_record.ensures (dwell-length a.r b) (omega (arith, c.requires.2)) (omega (arith, c.requires.1)) c.is_front.ensures y (not-false _ c.if-not-is_front.false-raw) (tail-is (record_length 3) a.x.now)
+    (c.same_targets.ensures ∙ ap (λ (rs : List Record). is_same (record_bytes rs) y) rest)

@@ -22,7 +22,7 @@ use Rattle.readback.proofs.same_hrr.Goals as goal
 use Rattle.readback.proofs.same_hrr.Goals.{After-scatterers_in-s}
 
 pub mask_of-mask-requires : goal.mask_of-mask-requires
-mask_of-mask-requires c tie.Need-mask-of-requires mask-of-requires c = let s = c.before.before.before in (is-hrr s.args.b.now s.requires.0).masked
+mask_of-mask-requires c = (is-hrr c.args.b.now c.requires.0).masked
 
 -- what is known before the record is laid out: the body begins with the mask that is read
 head : (c : After-scatterers_in-s) → Headed c.mask_of-mask.result c.args.b.now
@@ -44,51 +44,42 @@ long : (c : After-scatterers_in-s) → record_length 11 + c.scatterers_in-s.resu
 long c = omega (arith, c.requires.1, ap (λ (x : Scatterers). x.count) c.scatterers_in-s.ensures.0.0)
 
 pub hrr_record-requires : goal.hrr_record-requires
-hrr_record-requires c tie.Need-hrr-record-requires hrr-record-requires c = (head c.before, omega (arith, c.before.before.before.before.before.before.before.requires.2))
+hrr_record-requires c = (head (goal.at.hrr_record-requires c).After-scatterers_in-s, omega (arith, c.requires.2))
 
 pub returns-then-not-is_front : goal.returns-then-not-is_front
 unfolding hrr_records
-returns-then-not-is_front c tie.Need-returns unfolding hrr_records returns c =
-    let laid = c.before.before.before.before.before.before in
-    let s = laid.before.before.before.before.before.before.before.before in
-    let b = s.args.b.now in
-    record-differs (hrr_record b) _ s.args.x.now s.args.window.now _ (record_length 11) laid.hrr-record.ensures (hrr-length b) (omega (arith, s.requires.2)) (omega (arith, s.requires.1)) c.before.is_front.ensures (not-true _ c.if1.true)
+returns-then-not-is_front c =
+    let b = c.args.b.now in
+    record-differs (hrr_record b) _ c.args.x.now c.args.window.now _ (record_length 11) c.hrr_record.ensures (hrr-length b) (omega (arith, c.requires.2)) (omega (arith, c.requires.1)) c.is_front.ensures (not-true _ c.if-not-is_front.true-raw)
 
 pub slice_bounds-same_scatterers-count : goal.slice_bounds-same_scatterers-count
-slice_bounds-same_scatterers-count c tie.Need-overflow-sub-same-scatterers sub-same-scatterers c = omega (arith, fill c.before.before.before.before.before.before.before.before)
+slice_bounds-same_scatterers-count c = omega (arith, fill (goal.at.slice_bounds-same_scatterers-count c).After-scatterers_in-s)
 
 pub slice_bounds-same_scatterers-start : goal.slice_bounds-same_scatterers-start
-slice_bounds-same_scatterers-start c tie.Need-slice-bounds-same-scatterers-start part-same-scatterers-start c = omega (arith, fill c.before.before.before.before.before.before.before.before)
+slice_bounds-same_scatterers-start c = omega (arith, fill (goal.at.slice_bounds-same_scatterers-start c).After-scatterers_in-s)
 
 pub same_scatterers-requires : goal.same_scatterers-requires
-same_scatterers-requires c tie.Need-same-scatterers-requires same-scatterers-requires c =
-    let laid = c.before.before.before.before.before.before.before.before.before.before in
-    let known = laid.before.before in
-    let s = known.before.before.before.before.before.before in
-    let each = c.before.before.each_of.ensures.0 in
-    let b = s.args.b.now in
-    let takes = ap (λ (n c ℕ). known.scatterers-in.result.count * n) each in (
-      known.scatterers-in.ensures.0.1,
+same_scatterers-requires c =
+    let each = c.each_of.ensures.0 in
+    let b = c.args.b.now in
+    let takes = ap (λ (n : ℕ). c.scatterers_in-s.result.count * n) each in (
+      c.scatterers_in-s.ensures.0.1,
       each,
-      rw (tail-is (5 + known.before.fields-length.result) b, length-drop) (omega (arith, fill known, takes)),
-      sym (left-length (record_length 11) _ s.args.x.now (sym (long known))),
-      omega (arith, s.requires.2, laid.hrr-record.auto.1.1.0),
+      rw (tail-is (5 + c.fields_length-start.result) b, length-drop) (omega (arith, fill (goal.at.same_scatterers-requires c).After-scatterers_in-s, takes)),
+      sym (left-length (record_length 11) _ c.args.x.now (sym (long (goal.at.same_scatterers-requires c).After-scatterers_in-s))),
+      omega (arith, c.requires.2, c.hrr_record.auto.1.1.0),
     )
 
 pub returns : goal.returns
 unfolding hrr_records scatterer_widths
-returns c tie.Need-returns-2 unfolding hrr_records scatterer_widths returns-2 c =
-    let test = c.before.before.before.before.before.before.before in
-    let laid = test.before.before.before.before.before.before in
-    let known = laid.before.before in
-    let s = known.before.before.before.before.before.before in
-    let b = s.args.b.now in
-    let x = s.args.x.now in
-    let some = known.scatterers-in.result in
+returns c =
+    let b = c.args.b.now in
+    let x = c.args.x.now in
+    let some = c.scatterers_in-s.result in
     let y = take (length x - record_length 11) (drop (record_length 11) x) in
-    let place = tail-is (5 + known.before.fields-length.result) b ∙ ap (λ (n c ℕ). drop n b) (start_is known) in
+    let place = tail-is (5 + c.fields_length-start.result) b ∙ ap (λ (n : ℕ). drop n b) (start_is (goal.at.returns c).After-scatterers_in-s) in
     let rest =
-    ap (λ (t c List ℕ). scatterer_records (widths_of some) some.count t) place
-    ∙ ap (λ (q c Scatterers). scatterer_records (widths_of q) q.count (drop (5 + announced_length (hrr_mask b) 2 hrr_widths) b)) known.scatterers-in.ensures.0.0 in
-    record_same (hrr_record b) _ x s.args.window.now _ (record_length 11) laid.hrr-record.ensures (hrr-length b) (omega (arith, s.requires.2)) (omega (arith, s.requires.1)) test.before.is_front.ensures y (not-false _ test.if1.false) (tail-is (record_length 11) x)
-    (c.before.before.same-scatterers.ensures ∙ ap (λ (rs c List Record). is_same (record_bytes rs) y) rest)
+    ap (λ (t : List ℕ). scatterer_records (widths_of some) some.count t) place
+    ∙ ap (λ (q : Scatterers). scatterer_records (widths_of q) q.count (drop (5 + announced_length (hrr_mask b) 2 hrr_widths) b)) c.scatterers_in-s.ensures.0.0 in
+    record_same (hrr_record b) _ x c.args.window.now _ (record_length 11) c.hrr_record.ensures (hrr-length b) (omega (arith, c.requires.2)) (omega (arith, c.requires.1)) c.is_front.ensures y (not-false _ c.if-not-is_front.false-raw) (tail-is (record_length 11) x)
+    (c.same_scatterers.ensures ∙ ap (λ (rs : List Record). is_same (record_bytes rs) y) rest)

@@ -9,19 +9,14 @@ use Rattle.readback.proofs.Types.{behind-same}
 use Rattle.readback.proofs.same_opaque.Goals as goal
 
 pub opaque_record-requires : goal.opaque_record-requires
-opaque_record-requires c tie.Need-opaque-record-requires opaque-record-requires c = let s = c.before.before.before.before in (s.requires.0, omega (arith, s.requires.2))
+opaque_record-requires c = (c.requires.0, omega (arith, c.requires.2))
 
 pub same_with_pieces-requires : goal.same_with_pieces-requires
-same_with_pieces-requires c tie.Need-same-with-pieces-requires same-with-pieces-requires c =
-    let laid = c.before.before.before in
-    let s = laid.before.before.before.before.before in
-    let kept = laid.opaque-record.auto in
-    (omega (arith, kept, s.requires.2), s.requires.1, omega (arith, kept, s.requires.2))
+same_with_pieces-requires c =
+    let kept = c.opaque_record.auto in
+    (omega (arith, kept, c.requires.2), c.requires.1, omega (arith, kept, c.requires.2))
 
 pub returns : goal.returns
 unfolding opaque_records body_length
-returns c tie.Need-returns unfolding opaque_records body_length returns c =
-    let compared = c.before.before in
-    let laid = compared.before.before.before.before in
-    let s = laid.before.before.before.before.before in
-    behind-same (record_of 7 _) (pieces_of s.args.b.now) (record_bytes (opaque_records s.args.segment-type s.args.b.now)) s.args.x.now s.args.window.now _ (record_length 7) laid.opaque-record.ensures (length-one 7 _) (omega (arith, s.requires.2)) compared.same-with-pieces.ensures refl
+returns c =
+    behind-same (record_of 7 _) (pieces_of c.args.b.now) (record_bytes (opaque_records c.args.segment_type c.args.b.now)) c.args.x.now c.args.window.now _ (record_length 7) c.opaque_record.ensures (length-one 7 _) (omega (arith, c.requires.2)) c.same_with_pieces.ensures refl

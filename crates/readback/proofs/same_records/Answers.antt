@@ -29,30 +29,28 @@ here c =
     turn c.args.r c.args.l.now c.loop-at.at c.loop-at.invariant.left (omega (arith, c.requires.0.short)) c.loop-at-test.true _ c.size_at-size.ensures
 
 pub loop-at-init : goal.loop-at-init
-loop-at-init c tie.Need-loop-init invariant-loop decreases-loop loop-holds c =
-    let s = c.before.before.before in
-    record { left = all_left s.args.r s.args.l.now s.requires.0; same = refl; whole = omega (arith, s.requires.1); rest = refl }
+loop-at-init c =
+    record { left = all_left c.args.r c.args.l.now c.requires.0; same = refl; whole = omega (arith, c.requires.1); rest = refl }
 
 pub size_at-size-requires : goal.size_at-size-requires
-size_at-size-requires c tie.Need-size-at-requires invariant-loop decreases-loop size-at-requires c =
-    let i = c.before.before in
-    let a = i.before.before.before.before.args in
-    headed a.r a.l.now i.loop.at i.loop.invariant.left c.before.loop-test.true
+size_at-size-requires c =
+    let a = c.args in
+    headed a.r a.l.now c.loop-at.at c.loop-at.invariant.left c.loop-at-test.true
 
 pub bounds-t-0 : goal.bounds-t-0
-bounds-t-0 c tie.Need-shared-slice-read-segment-type invariant-loop decreases-loop shared-slice-read-segment-type c = let t = here c.before in omega (arith, t.header, t.part)
+bounds-t-0 c = let t = here (goal.at.bounds-t-0 c).After-size_at-size in omega (arith, t.header, t.part)
 
 pub slice_bounds-b-count : goal.slice_bounds-b-count
-slice_bounds-b-count c tie.Need-overflow-sub-b invariant-loop decreases-loop sub-b c = (here c.before).header
+slice_bounds-b-count c = (here (goal.at.slice_bounds-b-count c).After-size_at-size).header
 
 pub slice_bounds-b-start : goal.slice_bounds-b-start
-slice_bounds-b-start c tie.Need-slice-bounds-b-start invariant-loop decreases-loop part-b-start c = omega (arith, (here c.before).header)
+slice_bounds-b-start c = omega (arith, (here (goal.at.slice_bounds-b-start c).After-size_at-size).header)
 
 pub slice_bounds-b-end : goal.slice_bounds-b-end
-slice_bounds-b-end c tie.Need-slice-bounds-b-end invariant-loop decreases-loop part-b-end c = (here c.before).part
+slice_bounds-b-end c = (here (goal.at.slice_bounds-b-end c).After-size_at-size).part
 
 pub records_length-requires : goal.records_length-requires
-records_length-requires c tie.Need-records-length-requires invariant-loop decreases-loop records-length-requires c = (here c.before.before).checked
+records_length-requires c = (here (goal.at.records_length-requires c).After-size_at-size).checked
 
 -- its records, where their length is known, and so far x reaches
 module _ (c : After-records_length) where
@@ -72,59 +70,53 @@ module _ (c : After-records_length) where
   within = omega (arith, c.records_length.ensures, (here size).lengths-are, place.loop.inv.whole)
 
 pub overflow_add-to : goal.overflow_add-to
-overflow_add-to c tie.Need-overflow-add-to invariant-loop decreases-loop add-to c = omega (arith, within c)
+overflow_add-to c = omega (arith, within (goal.at.overflow_add-to c).After-records_length)
 
 pub slice_bounds-same_segment-end : goal.slice_bounds-same_segment-end
-slice_bounds-same_segment-end c tie.Need-slice-bounds-same-segment-end invariant-loop decreases-loop part-same-segment-end c = within c
+slice_bounds-same_segment-end c = within (goal.at.slice_bounds-same_segment-end c).After-records_length
 
 pub same_segment-requires : goal.same_segment-requires
-same_segment-requires c tie.Need-same-segment-requires invariant-loop decreases-loop same-segment-requires c =
-    let n = c.before.before in
-    let l = (place n).loop in
-    let x = (start n).args.x.now in
-    ((here (size n)).checked, sym (length_part x l.from _ (within n) ∙ n.records-length.ensures), omega (arith, l.inv.same, (start n).requires.2))
+same_segment-requires c =
+    let l = (place (goal.at.same_segment-requires c).After-records_length).loop in
+    let x = (start (goal.at.same_segment-requires c).After-records_length).args.x.now in
+    ((here (size (goal.at.same_segment-requires c).After-records_length)).checked, sym (length_part x l.from _ (within (goal.at.same_segment-requires c).After-records_length) ∙ c.records_length.ensures), omega (arith, l.inv.same, (start (goal.at.same_segment-requires c).After-records_length).requires.2))
 
 pub returns-then-not-same_segment : goal.returns-then-not-same_segment
-returns-then-not-same_segment c tie.Need-returns invariant-loop decreases-loop returns c =
-    let told = c.before.before.before in
-    let n = told.before.before.before in
-    let l = (place n).loop in
-    let x = (start n).args.x.now in
-    part-differs (first n) (bytes_left (here (size n)).next) x l.from _ (sym n.records-length.ensures) (within n) told.same-segment.ensures (not-true _ c.if1.true)
-    ∙ sym (ap (λ (y c List ℕ). is_same y (drop l.from x)) (here (size n)).bytes-are)
+returns-then-not-same_segment c =
+    let l = (place (goal.at.returns-then-not-same_segment c).After-records_length).loop in
+    let x = (start (goal.at.returns-then-not-same_segment c).After-records_length).args.x.now in
+    part-differs (first (goal.at.returns-then-not-same_segment c).After-records_length) (bytes_left (here (size (goal.at.returns-then-not-same_segment c).After-records_length)).next) x l.from _ (sym c.records_length.ensures) (within (goal.at.returns-then-not-same_segment c).After-records_length) c.same_segment.ensures (not-true _ c.if-not-same_segment.true-raw)
+    ∙ sym (ap (λ (y : List ℕ). is_same y (drop l.from x)) (here (size (goal.at.returns-then-not-same_segment c).After-records_length)).bytes-are)
     ∙ l.inv.rest
 
 pub overflow_add-at : goal.overflow_add-at
-overflow_add-at c tie.Need-overflow-add-at invariant-loop decreases-loop add_at c = let n = c.before.before.before.before.before.before in omega (arith, (here (size n)).within, (start n).well-formed)
+overflow_add-at c = omega (arith, (here (size (goal.at.overflow_add-at c).After-records_length)).within, (start (goal.at.overflow_add-at c).After-records_length).well-formed)
 
 pub loop-at-smaller : goal.loop-at-smaller
-loop-at-smaller c tie.Need-loop-smaller invariant-loop decreases-loop loop-less c = let t = here (size c.before.before.before.before.before.before) in omega (arith, t.header, t.within)
+loop-at-smaller c = let t = here (size (goal.at.loop-at-smaller c).After-records_length) in omega (arith, t.header, t.within)
 
 pub loop-at-preserved : goal.loop-at-preserved
-loop-at-preserved c tie.Need-loop-preserved invariant-loop decreases-loop loop-again c =
-    let told = c.before.before.before in
-    let n = told.before.before.before in
-    let l = (place n).loop in
-    let x = (start n).args.x.now in
-    let t = here (size n) in
+loop-at-preserved c =
+    let l = (place (goal.at.loop-at-preserved c).After-records_length).loop in
+    let x = (start (goal.at.loop-at-preserved c).After-records_length).args.x.now in
+    let t = here (size (goal.at.loop-at-preserved c).After-records_length) in
     record {
       left = t.next;
-      same = omega (arith, told.same-segment.auto, l.inv.same);
-      whole = omega (arith, n.records-length.ensures, t.lengths-are, l.inv.whole);
+      same = omega (arith, c.same_segment.auto, l.inv.same);
+      whole = omega (arith, c.records_length.ensures, t.lengths-are, l.inv.whole);
       rest =
-          part_same (first n) (bytes_left t.next) x l.from _ (sym n.records-length.ensures) (within n) told.same-segment.ensures (not-false _ c.if1.false)
-          ∙ sym (ap (λ (y c List ℕ). is_same y (drop l.from x)) t.bytes-are)
+          part_same (first (goal.at.loop-at-preserved c).After-records_length) (bytes_left t.next) x l.from _ (sym c.records_length.ensures) (within (goal.at.loop-at-preserved c).After-records_length) c.same_segment.ensures (not-false _ c.if-not-same_segment.false-raw)
+          ∙ sym (ap (λ (y : List ℕ). is_same y (drop l.from x)) t.bytes-are)
           ∙ l.inv.rest;
     }
 
 pub shape_of-window : goal.shape_of-window
-shape_of-window c tie.Need-same-length-2 invariant-loop decreases-loop same-length-2 c = c.before.loop.invariant.same
+shape_of-window c = c.loop-at.invariant.same
 
 pub returns : goal.returns
 unfolding is_same
-returns c tie.Need-returns-2 invariant-loop decreases-loop unfolding is_same returns-2 c =
-    let i = c.before in
-    let a = i.before.before.before.before.args in
-    let n = nothing_left a.r a.l.now i.loop.at i.loop.invariant.left (omega arith) in
-    let m c length a.x.now ≤ i.loop.from = omega (arith, i.loop.invariant.whole, ap length n) in
-    sym (ap₂ (λ (y z c List ℕ). is_same y z) n (drop_of_length-le a.x.now m)) ∙ i.loop.invariant.rest
+returns c =
+    let a = c.args in
+    let n = nothing_left a.r a.l.now c.loop-at.at c.loop-at.invariant.left (omega arith) in
+    let m : length a.x.now ≤ c.loop-at.from = omega (arith, c.loop-at.invariant.whole, ap length n) in
+    sym (ap₂ (λ (y z : List ℕ). is_same y z) n (drop_of_length-le a.x.now m)) ∙ c.loop-at.invariant.rest

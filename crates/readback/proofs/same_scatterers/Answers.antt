@@ -46,94 +46,85 @@ within c =
     (batch-within (records p) s.args.each (record_length 12) (joined s) (long p) s.args.t.now p.count _ _ (few c).0 s.args.each s.pre.2, omega (arith, (few c).0, s.pre.3))
 
 pub loop-done-init : goal.loop-done-init
-loop-done-init c tie.Need-loop-init invariant-loop decreases-loop loop-holds c =
-    let s = c.before.before.before in
-    let p = s.args.s in
-    let t = s.args.t.now in
-    let e c p.count - 0 ≡ p.count = omega arith in
-    let z c drop (0 * s.args.each) t ≡ t = ap (λ (n c ℕ). drop n t) (zero-mul s.args.each) in (
+loop-done-init c =
+    let p = c.args.s in
+    let t = c.args.t.now in
+    let e : p.count - 0 ≡ p.count = omega arith in
+    let z : drop (0 * c.args.each) t ≡ t = ap (λ (n : ℕ). drop n t) (zero-mul c.args.each) in (
       omega arith,
       refl,
-      ap₂ (λ (n c ℕ) (y c List ℕ). is_same (record_bytes (records p n y)) s.args.x.now) e z,
+      ap₂ (λ (n : ℕ) (y : List ℕ). is_same (record_bytes (records p n y)) c.args.x.now) e z,
     )
 
 pub overflow_mul-at : goal.overflow_mul-at
-overflow_mul-at c tie.Need-overflow-mul-at invariant-loop decreases-loop mul_at c = omega (arith, (within c).0)
+overflow_mul-at c = omega (arith, (within (goal.at.overflow_mul-at c).After-least-k).0)
 
 pub overflow_mul-q : goal.overflow_mul-q
-overflow_mul-q c tie.Need-overflow-mul-q invariant-loop decreases-loop mul-q c = omega (arith, (within c).1)
+overflow_mul-q c = omega (arith, (within (goal.at.overflow_mul-q c).After-least-k).1)
 
 pub overflow_mul-to : goal.overflow_mul-to
-overflow_mul-to c tie.Need-overflow-mul-to invariant-loop decreases-loop mul-to c = omega (arith, (within c).1)
+overflow_mul-to c = omega (arith, (within (goal.at.overflow_mul-to c).After-least-k).1)
 
 pub overflow_add-to : goal.overflow_add-to
-overflow_add-to c tie.Need-overflow-add-to invariant-loop decreases-loop add-to c = omega (arith, (within c).1)
+overflow_add-to c = omega (arith, (within (goal.at.overflow_add-to c).After-least-k).1)
 
 pub slice_bounds-scatterer_records-count : goal.slice_bounds-scatterer_records-count
-slice_bounds-scatterer_records-count c tie.Need-overflow-sub-scatterer-records invariant-loop decreases-loop sub-scatterer-records c = omega (arith, (within c).0)
+slice_bounds-scatterer_records-count c = omega (arith, (within (goal.at.slice_bounds-scatterer_records-count c).After-least-k).0)
 
 pub slice_bounds-scatterer_records-start : goal.slice_bounds-scatterer_records-start
-slice_bounds-scatterer_records-start c tie.Need-slice-bounds-scatterer-records-start invariant-loop decreases-loop part-scatterer-records-start c = omega (arith, (within c).0)
+slice_bounds-scatterer_records-start c = omega (arith, (within (goal.at.slice_bounds-scatterer_records-start c).After-least-k).0)
 
 pub slice_bounds-scatterer_records-end : goal.slice_bounds-scatterer_records-end
-slice_bounds-scatterer_records-end c tie.Need-slice-bounds-scatterer-records-end invariant-loop decreases-loop part-scatterer-records-end c = omega (arith, (within c).0)
+slice_bounds-scatterer_records-end c = omega (arith, (within (goal.at.slice_bounds-scatterer_records-end c).After-least-k).0)
 
 pub scatterer_records-requires : goal.scatterer_records-requires
-scatterer_records-requires c tie.Need-scatterer-records-requires invariant-loop decreases-loop scatterer-records-requires c =
-    let batch = c.before.before in
-    let l = batch.before.before.before.before.loop in
-    let s = start batch in
+scatterer_records-requires c =
+    let l = c.loop-done in
+    let s = start c in
     let t = s.args.t.now in
-    let k = batch.least.result in
-    let takes = ap (λ (n c ℕ). k * n) s.pre.1 in (
+    let k = c.least-k.result in
+    let takes = ap (λ (n : ℕ). k * n) s.pre.1 in (
       s.pre.0,
-      rw (tail-is (l.done * s.args.each) t, length-drop) (omega (arith, (within batch).0, takes)),
-      omega (arith, (few batch).2, l.invariant.1, s.pre.4),
+      rw (tail-is (l.done * s.args.each) t, length-drop) (omega (arith, (within (goal.at.scatterer_records-requires c).After-least-k).0, takes)),
+      omega (arith, (few (goal.at.scatterer_records-requires c).After-least-k).2, l.invariant.1, s.pre.4),
     )
 
 pub slice_bounds-is_front-end : goal.slice_bounds-is_front-end
-slice_bounds-is_front-end c tie.Need-slice-bounds-is-front-end invariant-loop decreases-loop part-is-front-end c = omega (arith, (within c.before.before.before.before.before.before).1)
+slice_bounds-is_front-end c = omega (arith, (within (goal.at.slice_bounds-is_front-end c).After-least-k).1)
 
 pub is_front-requires : goal.is_front-requires
-is_front-requires c tie.Need-is-front-requires invariant-loop decreases-loop is-front-requires c =
-    let laid = c.before.before.before.before in
-    let batch = laid.before.before.before in
-    simp length-take (omega (arith, (few batch).2, batch.before.before.before.before.loop.invariant.1, (start batch).requires.4, laid.scatterer-records.auto))
+is_front-requires c =
+    simp length-take (omega (arith, (few (goal.at.is_front-requires c).After-least-k).2, c.loop-done.invariant.1, (start c).requires.4, c.scatterer_records.auto))
 
 pub returns-then-not-is_front : goal.returns-then-not-is_front
-returns-then-not-is_front c tie.Need-returns invariant-loop decreases-loop returns c =
-    let laid = c.before.before.before.before.before.before in
-    let batch = laid.before.before.before in
-    let l = batch.before.before.before.before.loop in
-    let s = start batch in
+returns-then-not-is_front c =
+    let l = c.loop-done in
+    let s = start c in
     let p = s.args.s in
-    batch-differs (records p) s.args.each (record_length 12) (joined s) (long p) s.args.t.now p.count l.done batch.least.result (few batch).0 s.args.x.now l.window _ s.pre.3 (omega (arith, (few batch).2, l.invariant.1, s.pre.4)) laid.scatterer-records.ensures c.before.is_front.ensures (not-true _ c.if2.true)
+    batch-differs (records p) s.args.each (record_length 12) (joined s) (long p) s.args.t.now p.count l.done c.least-k.result (few (goal.at.returns-then-not-is_front c).After-least-k).0 s.args.x.now l.window _ s.pre.3 (omega (arith, (few (goal.at.returns-then-not-is_front c).After-least-k).2, l.invariant.1, s.pre.4)) c.scatterer_records.ensures c.is_front.ensures (not-true _ c.if-not-is_front.true-raw)
     ∙ l.invariant.2
 
 pub overflow_add-done : goal.overflow_add-done
-overflow_add-done c tie.Need-overflow-add-done invariant-loop decreases-loop add_done c = omega (arith, (few c.before.before.before.before.before.before.before.before.before).0)
+overflow_add-done c = omega (arith, (few (goal.at.overflow_add-done c).After-least-k).0)
 
 pub loop-done-smaller : goal.loop-done-smaller
-loop-done-smaller c tie.Need-loop-smaller invariant-loop decreases-loop loop-less c = let f = few c.before.before.before.before.before.before.before.before.before in omega (arith, f.0, f.1)
+loop-done-smaller c = let f = few (goal.at.loop-done-smaller c).After-least-k in omega (arith, f.0, f.1)
 
 pub loop-done-preserved : goal.loop-done-preserved
-loop-done-preserved c tie.Need-loop-preserved invariant-loop decreases-loop loop-again c =
-    let laid = c.before.before.before.before.before.before in
-    let batch = laid.before.before.before in
-    let l = batch.before.before.before.before.loop in
-    let s = start batch in
+loop-done-preserved c =
+    let l = c.loop-done in
+    let s = start c in
     let p = s.args.s in
     let t = s.args.t.now in
-    let k = batch.least.result in (
-      (few batch).0,
-      omega (arith, laid.scatterer-records.auto, l.invariant.1),
-      batch-same (records p) s.args.each (record_length 12) (joined s) (long p) t p.count l.done k (few batch).0 s.args.x.now l.window _ s.pre.3 (omega (arith, (few batch).2, l.invariant.1, s.pre.4)) laid.scatterer-records.ensures c.before.is_front.ensures (not-false _ c.if2.false)
+    let k = c.least-k.result in (
+      (few (goal.at.loop-done-preserved c).After-least-k).0,
+      omega (arith, c.scatterer_records.auto, l.invariant.1),
+      batch-same (records p) s.args.each (record_length 12) (joined s) (long p) t p.count l.done k (few (goal.at.loop-done-preserved c).After-least-k).0 s.args.x.now l.window _ s.pre.3 (omega (arith, (few (goal.at.loop-done-preserved c).After-least-k).2, l.invariant.1, s.pre.4)) c.scatterer_records.ensures c.is_front.ensures (not-false _ c.if-not-is_front.false-raw)
           ∙ l.invariant.2,
     )
 
 pub returns : goal.returns
-returns c tie.Need-returns-2 invariant-loop decreases-loop returns-2 c =
-    let l = c.before.before.loop in
-    let s = c.before.before.before.before.before.before in
-    let p = s.args.s in
-    sym (batch-end (records p) s.args.each (record_length 12) (joined s) (long p) (p.count - l.done) (l.done * record_length 12) _ s.args.x.now (omega arith) (omega (arith, s.requires.3))) ∙ l.invariant.2
+returns c =
+    let l = c.loop-done in
+    let p = c.args.s in
+    sym (batch-end (records p) c.args.each (record_length 12) (joined (goal.at.returns c).Start) (long p) (p.count - l.done) (l.done * record_length 12) _ c.args.x.now (omega arith) (omega (arith, c.requires.3))) ∙ l.invariant.2

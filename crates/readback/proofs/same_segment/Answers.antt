@@ -68,99 +68,68 @@ opaque c =
     longer-is c.args.r (b (goal.at.In_default c).Start) c.args.segment_type (omega (arith, c.requires.1, c.if-x-le-WINDOW.false)) c.in_default.rest.0.0.1 (other-than-hrr c.args.r c.args.segment_type c.in_default.rest.0.1) c.in_default.rest.1
 
 pub returns-then-x-le-WINDOW : goal.returns-then-x-le-WINDOW
-returns-then-x-le-WINDOW c tie.Need-returns returns c =
-    let laid = c.before.before.before.before in
-    let test = laid.before.before in
-    let s = test.before.before.before.before in
-    filled-same (bytes_as s s.args.segment-type) (x s) s.args.window.now _ laid.segment-records.ensures.1 s.requires.1 (omega (arith, test.if1.true, s.requires.2)) c.is_front.ensures
+returns-then-x-le-WINDOW c =
+    filled-same (bytes_as (goal.at.returns-then-x-le-WINDOW c).Start c.args.segment_type) (x (goal.at.returns-then-x-le-WINDOW c).Start) c.args.window.now _ c.segment_records.ensures.1 c.requires.1 (omega (arith, c.if-x-le-WINDOW.true, c.requires.2)) c.is_front.ensures
 
 pub same_dwell-requires : goal.same_dwell-requires
 unfolding body_rows is_hrr
-same_dwell-requires c tie.Need-same-dwell-requires unfolding body_rows is_hrr same-dwell-requires c =
-    let s = c.before.before.before.before.before.before in
-    let e = c.before.match.keys1 in
-    (rows s 2 e, long s 2 e, s.requires.2)
+same_dwell-requires c =
+    let e = c.in-2.is in
+    (rows c 2 e, long c 2 e, c.requires.2)
 
 pub same_hrr-requires : goal.same_hrr-requires
 unfolding body_rows is_hrr
-same_hrr-requires c tie.Need-same-hrr-requires unfolding body_rows is_hrr same-hrr-requires c =
-    let test = c.before.before in
-    let s = test.before.before.before.before.before.before in
-    let e = test.before.match.keys2 in
-    let read = sym test.is-hrr-read.ensures ∙ c.before.if2.true in
-    (rw read at (rows s 3 e), rw read at (long s 3 e), s.requires.2)
+same_hrr-requires c =
+    let e = c.in-3.is in
+    let read = sym c.is_hrr_read.ensures ∙ c.if-is_hrr_read.true in
+    (rw read at (rows c 3 e), rw read at (long c 3 e), c.requires.2)
 
 pub same_opaque-requires : goal.same_opaque-requires
-same_opaque-requires c tie.Need-same-opaque-requires same-opaque-requires c =
-    let test = c.before.before in
-    let s = test.before.before.before.before.before.before in
-    (s.requires.0.short, sym (length-opaque s.args.segment-type (b s)) ∙ long-opaque s (unread s test.before.match.keys2 test.is-hrr-read.ensures c.before.if2.false), s.requires.2)
+same_opaque-requires c =
+    (c.requires.0.short, sym (length-opaque c.args.segment_type (b (goal.at.same_opaque-requires c).Start)) ∙ long-opaque (goal.at.same_opaque-requires c).Start (unread (goal.at.same_opaque-requires c).Start c.in-3.is c.is_hrr_read.ensures c.if-is_hrr_read.false), c.requires.2)
 
 pub text_record-requires : goal.text_record-requires
 unfolding body_rows is_hrr
-text_record-requires c tie.Need-text-record-requires unfolding body_rows is_hrr text-record-requires c =
-    let s = c.before.before.before.before.before.before in
-    (text-length (b s) (rows s 6 c.before.match.keys3), s.requires.0.short, omega (arith, s.requires.2))
+text_record-requires c =
+    (text-length (b (goal.at.text_record-requires c).Start) (rows c 6 c.in-6.is), c.requires.0.short, omega (arith, c.requires.2))
 
 pub slice_bounds-same_with_pieces-count : goal.slice_bounds-same_with_pieces-count
 unfolding body_rows is_hrr
-slice_bounds-same_with_pieces-count c tie.Need-overflow-sub-same-with-pieces unfolding body_rows is_hrr sub-same-with-pieces c =
-    let arm = c.before.before.before.before in
-    let s = arm.before.before.before.before.before in
-    text-length (b s) (rows s 6 arm.match.keys3)
+slice_bounds-same_with_pieces-count c =
+    text-length (b (goal.at.slice_bounds-same_with_pieces-count c).Start) (rows c 6 c.in-6.is)
 
 pub slice_bounds-same_with_pieces-start : goal.slice_bounds-same_with_pieces-start
-slice_bounds-same_with_pieces-start c tie.Need-slice-bounds-same-with-pieces-start part-same-with-pieces-start c = omega (arith, sub-same-with-pieces c)
+slice_bounds-same_with_pieces-start c = omega (arith, sub-same-with-pieces c)
 
 pub same_with_pieces-requires : goal.same_with_pieces-requires
-same_with_pieces-requires c tie.Need-same-with-pieces-requires same-with-pieces-requires c =
-    let record-laid = c.before.before.before.before in
-    let arm = record-laid.before.before in
-    let s = arm.before.before.before.before.before in
-    let kept = record-laid.text-record.auto in
-    (omega (arith, kept, s.requires.2), omega (arith, long s 6 arm.match.keys3, ap piece_count (pieces s)), omega (arith, kept, s.requires.2))
+same_with_pieces-requires c =
+    let kept = c.text_record.auto in
+    (omega (arith, kept, c.requires.2), omega (arith, long c 6 c.in-6.is, ap piece_count (pieces (goal.at.same_with_pieces-requires c).Start)), omega (arith, kept, c.requires.2))
 
 pub same_opaque-requires-in_default : goal.same_opaque-requires-in_default
-same_opaque-requires-in_default c tie.Need-same-opaque-requires-2 same-opaque-requires-2 c =
-    let s = c.before.before.before.before.before.before in
-    (s.requires.0.short, sym (length-opaque s.args.segment-type (b s)) ∙ long-opaque s (opaque c.before), s.requires.2)
+same_opaque-requires-in_default c =
+    (c.requires.0.short, sym (length-opaque c.args.segment_type (b (goal.at.same_opaque-requires-in_default c).Start)) ∙ long-opaque (goal.at.same_opaque-requires-in_default c).Start (opaque (goal.at.same_opaque-requires-in_default c).In_default), c.requires.2)
 
 pub returns-in-2 : goal.returns-in-2
 unfolding segment_records
-returns-in-2 c tie.Need-returns-2 unfolding segment_records returns-2 c =
-    let arm = c.before.before.before.before in
-    let s = arm.before.before.before.before.before in
-    told s (bytes_as s 2) (bytes-are s 2 arm.match.keys1) c.before.before.same-dwell.ensures
+returns-in-2 c =
+    told (goal.at.returns-in-2 c).Start (bytes_as (goal.at.returns-in-2 c).Start 2) (bytes-are c 2 c.in-2.is) c.same_dwell.ensures
 
 pub returns-then-is_hrr_read : goal.returns-then-is_hrr_read
 unfolding segment_records
-returns-then-is_hrr_read c tie.Need-returns-3 unfolding segment_records returns-3 c =
-    let compared = c.before.before in
-    let read = compared.before.before in
-    let test = read.before in
-    let s = test.before.before.before.before.before.before in
-    told s _ (rw (sym test.is-hrr-read.ensures ∙ read.if2.true) at (bytes-are s 3 test.before.match.keys2)) compared.same-hrr.ensures
+returns-then-is_hrr_read c =
+    told (goal.at.returns-then-is_hrr_read c).Start _ (rw (sym c.is_hrr_read.ensures ∙ c.if-is_hrr_read.true) at (bytes-are c 3 c.in-3.is)) c.same_hrr.ensures
 
 pub returns-else-is_hrr_read : goal.returns-else-is_hrr_read
-returns-else-is_hrr_read c tie.Need-returns-4 returns-4 c =
-    let compared = c.before.before in
-    let read = compared.before.before in
-    let test = read.before in
-    let s = test.before.before.before.before.before.before in
-    told s _ (unread s test.before.match.keys2 test.is-hrr-read.ensures read.if2.false) compared.same-opaque.ensures
+returns-else-is_hrr_read c =
+    told (goal.at.returns-else-is_hrr_read c).Start _ (unread (goal.at.returns-else-is_hrr_read c).Start c.in-3.is c.is_hrr_read.ensures c.if-is_hrr_read.false) c.same_opaque.ensures
 
 pub returns-in-6 : goal.returns-in-6
 unfolding segment_records text_records body_length is_hrr
-returns-in-6 c tie.Need-returns-5 unfolding segment_records text_records body_length is_hrr returns-5 c =
-    let compared = c.before.before in
-    let record-laid = compared.before.before.before.before.before in
-    let arm = record-laid.before.before in
-    let s = arm.before.before.before.before.before in
-    behind-same (record_of 5 _) (pieces_of (take (length (b s) - 20) (drop 20 (b s)))) (bytes_as s s.args.segment-type) (x s) s.args.window.now _ (record_length 5) record-laid.text-record.ensures (length-one 5 _) (omega (arith, s.requires.2)) compared.same-with-pieces.ensures
-    (rw (tail-is 20 (b s)) (bytes-are s 6 arm.match.keys3))
+returns-in-6 c =
+    behind-same (record_of 5 _) (pieces_of (take (length (b (goal.at.returns-in-6 c).Start) - 20) (drop 20 (b (goal.at.returns-in-6 c).Start)))) (bytes_as (goal.at.returns-in-6 c).Start c.args.segment_type) (x (goal.at.returns-in-6 c).Start) c.args.window.now _ (record_length 5) c.text_record.ensures (length-one 5 _) (omega (arith, c.requires.2)) c.same_with_pieces.ensures
+    (rw (tail-is 20 (b (goal.at.returns-in-6 c).Start)) (bytes-are c 6 c.in-6.is))
 
 pub returns-in_default : goal.returns-in_default
-returns-in_default c tie.Need-returns-6 returns-6 c =
-    let compared = c.before.before in
-    let s = compared.before.before.before.before.before.before.before in
-    told s _ (opaque compared.before.before) compared.same-opaque2.ensures
+returns-in_default c =
+    told (goal.at.returns-in_default c).Start _ (opaque (goal.at.returns-in_default c).In_default) c.same_opaque-in_default.ensures

@@ -44,43 +44,33 @@ laid c = front-is (header (goal.at.After-header_record c).After-reading_of-r) (s
 
 pub header_record-requires : goal.header_record-requires
 unfolding body_length
-header_record-requires c tie.Need-header-record-requires unfolding body_length header-record-requires c = let r = c.before in ((known r).headed, omega (arith, (start r).requires.2))
+header_record-requires c = ((known (goal.at.header_record-requires c).After-reading_of-r).headed, omega (arith, (start (goal.at.header_record-requires c).After-reading_of-r).requires.2))
 
 pub slice_bounds-is_front-end : goal.slice_bounds-is_front-end
-slice_bounds-is_front-end c tie.Need-slice-bounds-is-front-end part-is-front-end c = omega (arith, long c.before.before.before.before.before)
+slice_bounds-is_front-end c = omega (arith, long (goal.at.slice_bounds-is_front-end c).After-reading_of-r)
 
 pub returns-then-not-is_front : goal.returns-then-not-is_front
-returns-then-not-is_front c tie.Need-returns returns c =
-    let told = c.before in
-    let h = told.before.before.before.before.before in
-    let r = h.before.before in
-    head-differs (header r) _ (x r) _ (record_length 1) (laid h) (length-header (packet r)) (omega (arith, long r)) told.is_front.ensures (not-true _ c.if1.true)
-    ∙ ap (λ (y c List ℕ). is_same y (x r)) (sym (known r).sheet-is)
+returns-then-not-is_front c =
+    head-differs (header (goal.at.returns-then-not-is_front c).After-reading_of-r) _ (x (goal.at.returns-then-not-is_front c).After-reading_of-r) _ (record_length 1) (laid (goal.at.returns-then-not-is_front c).After-header_record) (length-header (packet (goal.at.returns-then-not-is_front c).After-reading_of-r)) (omega (arith, long (goal.at.returns-then-not-is_front c).After-reading_of-r)) c.is_front.ensures (not-true _ c.if-not-is_front.true-raw)
+    ∙ ap (λ (y : List ℕ). is_same y (x (goal.at.returns-then-not-is_front c).After-reading_of-r)) (sym (known (goal.at.returns-then-not-is_front c).After-reading_of-r).sheet-is)
 
 pub slice_bounds-same_records-count : goal.slice_bounds-same_records-count
-slice_bounds-same_records-count c tie.Need-overflow-sub-same-records sub-same-records c = omega (arith, (known c.before.before.before.before.before.before.before.before).headed)
+slice_bounds-same_records-count c = omega (arith, (known (goal.at.slice_bounds-same_records-count c).After-reading_of-r).headed)
 
 pub slice_bounds-same_records-start : goal.slice_bounds-same_records-start
-slice_bounds-same_records-start c tie.Need-slice-bounds-same-records-start part-same-records-start c = omega (arith, (known c.before.before.before.before.before.before.before.before).headed)
+slice_bounds-same_records-start c = omega (arith, (known (goal.at.slice_bounds-same_records-start c).After-reading_of-r).headed)
 
 pub slice_bounds-same_records-count-2 : goal.slice_bounds-same_records-count-2
-slice_bounds-same_records-count-2 c tie.Need-overflow-sub-same-records-2 sub-same-records-2 c = omega (arith, long c.before.before.before.before.before.before.before.before.before)
+slice_bounds-same_records-count-2 c = omega (arith, long (goal.at.slice_bounds-same_records-count-2 c).After-reading_of-r)
 
 pub slice_bounds-same_records-start-2 : goal.slice_bounds-same_records-start-2
-slice_bounds-same_records-start-2 c tie.Need-slice-bounds-same-records-start-2 part-same-records-start-2 c = omega (arith, long c.before.before.before.before.before.before.before.before.before)
+slice_bounds-same_records-start-2 c = omega (arith, long (goal.at.slice_bounds-same_records-start-2 c).After-reading_of-r)
 
 pub same_records-requires : goal.same_records-requires
-same_records-requires c tie.Need-same-records-requires same-records-requires c =
-    let h = c.before.before.before.before.before.before.before.before.before in
-    let r = h.before.before in
-    ((known r).checked, sym (left-length (record_length 1) _ (x r) (long r)), omega (arith, (start r).requires.2, h.header-record.auto))
+same_records-requires c =
+    ((known (goal.at.same_records-requires c).After-reading_of-r).checked, sym (left-length (record_length 1) _ (x (goal.at.same_records-requires c).After-reading_of-r) (long (goal.at.same_records-requires c).After-reading_of-r)), omega (arith, (start (goal.at.same_records-requires c).After-reading_of-r).requires.2, c.header_record.auto))
 
 pub returns : goal.returns
-returns c tie.Need-returns-2 returns-2 c =
-    let compared = c.before.before in
-    let test = compared.before.before.before.before in
-    let told = test.before in
-    let h = told.before.before.before.before.before in
-    let r = h.before.before in
-    head-same (header r) _ (x r) _ (record_length 1) (laid h) (length-header (packet r)) (omega (arith, long r)) told.is_front.ensures _ (not-false _ test.if1.false) (tail-is (record_length 1) (x r)) compared.same-records.ensures
-    ∙ ap (λ (y c List ℕ). is_same y (x r)) (sym (known r).sheet-is)
+returns c =
+    head-same (header (goal.at.returns c).After-reading_of-r) _ (x (goal.at.returns c).After-reading_of-r) _ (record_length 1) (laid (goal.at.returns c).After-header_record) (length-header (packet (goal.at.returns c).After-reading_of-r)) (omega (arith, long (goal.at.returns c).After-reading_of-r)) c.is_front.ensures _ (not-false _ c.if-not-is_front.false-raw) (tail-is (record_length 1) (x (goal.at.returns c).After-reading_of-r)) c.same_records.ensures
+    ∙ ap (λ (y : List ℕ). is_same y (x (goal.at.returns c).After-reading_of-r)) (sym (known (goal.at.returns c).After-reading_of-r).sheet-is)

@@ -9,4 +9,4 @@ use Rattle.reader.proofs.check.Goals as goal
 
 pub returns : goal.returns
 unfolding check
-returns c tie.Need-returns unfolding check returns c = ap (λ (a c Answer). outcome a []) c.check-with.ensures
+returns c = ap (λ (a : Answer). outcome a []) c.check_with.ensures

@@ -20,27 +20,25 @@ sized : (c : In_default) → Sized c.args.packet.now
 sized c = let a = c.args in header-sized a.settings a.packet.now (passed c)
 
 pub returns-in-Failed : goal.returns-in-Failed
-returns-in-Failed c tie.Need-returns returns c =
-    let a = c.before.before.before.before.before.args in
-    answer-header a.settings a.packet.now _ _ (sym c.before.before.before.header-check.ensures ∙ c.before.number.given.1)
+returns-in-Failed c =
+    let a = c.args in
+    answer-header a.settings a.packet.now _ _ (sym c.header_check.ensures ∙ c.in-Failed.is)
 
 pub reading_of-r-requires : goal.reading_of-r-requires
-reading_of-r-requires c tie.Need-reading-of-requires reading-of-requires c = passed c
+reading_of-r-requires c = passed (goal.at.reading_of-r-requires c).In_default
 
 pub slice_bounds-check-count : goal.slice_bounds-check-count
-slice_bounds-check-count c tie.Need-overflow-sub-check sub-check c = omega (arith, (sized c.before).long)
+slice_bounds-check-count c = omega (arith, (sized (goal.at.slice_bounds-check-count c).In_default).long)
 
 pub slice_bounds-check-start : goal.slice_bounds-check-start
-slice_bounds-check-start c tie.Need-slice-bounds-check-start part-check-start c = omega (arith, (sized c.before).long)
+slice_bounds-check-start c = omega (arith, (sized (goal.at.slice_bounds-check-start c).In_default).long)
 
 pub check-requires : goal.check-requires
-check-requires c tie.Need-check-requires check-requires c =
-    let header = c.before.before in
-    let packet = header.before.before.before.before.args.packet.now in
-    rw (tail-is 32 packet, length-drop) (omega (arith, (sized header).short))
+check-requires c =
+    let packet = c.args.packet.now in
+    rw (tail-is 32 packet, length-drop) (omega (arith, (sized (goal.at.check-requires c).In_default).short))
 
 pub returns : goal.returns
-returns c tie.Need-returns-2 returns-2 c =
-    let header = c.before.before.before in
-    let a = header.before.before.before.before.args in
-    answer-walked a.settings a.packet.now (passed header) _ _ c.before.before.reading-of.ensures (tail-is 32 a.packet.now) c.check.ensures
+returns c =
+    let a = c.args in
+    answer-walked a.settings a.packet.now (passed (goal.at.returns c).In_default) _ _ c.reading_of-r.ensures (tail-is 32 a.packet.now) c.check.ensures

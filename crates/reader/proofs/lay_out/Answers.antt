@@ -37,20 +37,18 @@ module _ (s : Start) (k : ℕ) (e : s.args.segment_type ≡ k) where
 
 pub mission_records-requires : goal.mission_records-requires
 unfolding body_rows body_length
-mission_records-requires c tie.Need-mission-records-requires unfolding body_rows body_length mission-records-requires c = let s = c.before.before.before.before in let e = c.before.match.keys1 in (mission-length s.args.b.now (rows s 1 e), room s 1 e)
+mission_records-requires c = let e = c.in-1.is in (mission-length c.args.b.now (rows (goal.at.mission_records-requires c).Start 1 e), room (goal.at.mission_records-requires c).Start 1 e)
 
 pub dwell_records-requires : goal.dwell_records-requires
 unfolding body_rows
-dwell_records-requires c tie.Need-dwell-records-requires unfolding body_rows dwell-records-requires c = let s = c.before.before.before.before in let e = c.before.match.keys2 in (rows s 2 e, room s 2 e)
+dwell_records-requires c = let e = c.in-2.is in (rows (goal.at.dwell_records-requires c).Start 2 e, room (goal.at.dwell_records-requires c).Start 2 e)
 
 pub hrr_records-requires : goal.hrr_records-requires
 unfolding body_rows
-hrr_records-requires c tie.Need-hrr-records-requires unfolding body_rows hrr-records-requires c =
-    let test = c.before.before in
-    let s = test.before.before.before.before in
-    let e = test.before.match.keys3 in
-    let h = sym test.is-hrr-read.ensures ∙ c.before.if1.true in
-    (rw h at (rows s 3 e), rw h at (room s 3 e))
+hrr_records-requires c =
+    let e = c.in-3.is in
+    let h = sym c.is_hrr_read.ensures ∙ c.if-is_hrr_read.true in
+    (rw h at (rows (goal.at.hrr_records-requires c).Start 3 e), rw h at (room (goal.at.hrr_records-requires c).Start 3 e))
 
 -- a segment of type 3 that is not read field by field
 three : (c : Else-is_hrr_read) → let a = c.args in
@@ -60,25 +58,24 @@ three c =
     bytes-three a.r a.b.now a.segment_type c.in-3.is (sym c.is_hrr_read.ensures ∙ c.if-is_hrr_read.false)
 
 pub opaque_records-requires : goal.opaque_records-requires
-opaque_records-requires c tie.Need-opaque-records-requires opaque-records-requires c =
-    let s = c.before.before.before.before.before.before in
-    (s.requires.0.short, room-as-opaque s.args.r s.args.b.now s.args.segment-type (three c.before) _ s.requires.1)
+opaque_records-requires c =
+    (c.requires.0.short, room-as-opaque c.args.r c.args.b.now c.args.segment_type (three (goal.at.opaque_records-requires c).Else-is_hrr_read) _ c.requires.1)
 
 pub job_records-requires : goal.job_records-requires
 unfolding body_rows is_hrr body_length
-job_records-requires c tie.Need-job-records-requires unfolding body_rows is_hrr body_length job-records-requires c = let s = c.before.before.before.before in let e = c.before.match.keys4 in (omega (arith, job-length s.args.r s.args.b.now (rows s 5 e)), room s 5 e)
+job_records-requires c = let e = c.in-5.is in (omega (arith, job-length c.args.r c.args.b.now (rows (goal.at.job_records-requires c).Start 5 e)), room (goal.at.job_records-requires c).Start 5 e)
 
 pub text_records-requires : goal.text_records-requires
 unfolding body_rows is_hrr
-text_records-requires c tie.Need-text-records-requires unfolding body_rows is_hrr text-records-requires c = let s = c.before.before.before.before in let e = c.before.match.keys5 in (text-length s.args.b.now (rows s 6 e), s.requires.0.short, room s 6 e)
+text_records-requires c = let e = c.in-6.is in (text-length c.args.b.now (rows (goal.at.text_records-requires c).Start 6 e), c.requires.0.short, room (goal.at.text_records-requires c).Start 6 e)
 
 pub test_records-requires : goal.test_records-requires
 unfolding body_rows is_hrr body_length
-test_records-requires c tie.Need-test-records-requires unfolding body_rows is_hrr body_length test-records-requires c = let s = c.before.before.before.before in let e = c.before.match.keys6 in (kept-length 14 s.args.b.now (rows s 10 e), room s 10 e)
+test_records-requires c = let e = c.in-10.is in (kept-length 14 c.args.b.now (rows (goal.at.test_records-requires c).Start 10 e), room (goal.at.test_records-requires c).Start 10 e)
 
 pub location_records-requires : goal.location_records-requires
 unfolding body_rows is_hrr body_length
-location_records-requires c tie.Need-location-records-requires unfolding body_rows is_hrr body_length location-records-requires c = let s = c.before.before.before.before in let e = c.before.match.keys7 in (kept-length 23 s.args.b.now (rows s 13 e), room s 13 e)
+location_records-requires c = let e = c.in-13.is in (kept-length 23 c.args.b.now (rows (goal.at.location_records-requires c).Start 13 e), room (goal.at.location_records-requires c).Start 13 e)
 
 -- a segment of another type
 other : (c : In_default) → let a = c.args in
@@ -86,49 +83,44 @@ other : (c : In_default) → let a = c.args in
 other c = let a = c.args in bytes-other a.r a.b.now a.segment_type c.in_default.rest
 
 pub opaque_records-requires-in_default : goal.opaque_records-requires-in_default
-opaque_records-requires-in_default c tie.Need-opaque-records-requires-2 opaque-records-requires-2 c =
-    let s = c.before.before.before.before in
-    (s.requires.0.short, room-as-opaque s.args.r s.args.b.now s.args.segment-type (other c.before) _ s.requires.1)
+opaque_records-requires-in_default c =
+    (c.requires.0.short, room-as-opaque c.args.r c.args.b.now c.args.segment_type (other (goal.at.opaque_records-requires-in_default c).In_default) _ c.requires.1)
 
 pub returns-in-1 : goal.returns-in-1
 unfolding segment_records
-returns-in-1 c tie.Need-returns unfolding segment_records returns c = let t = c.before.before.before.before in laid t.before.before.before 1 t.match.keys1 c.before.before.mission-records.ensures
+returns-in-1 c = laid (goal.at.returns-in-1 c).Start 1 c.in-1.is c.mission_records.ensures
 
 pub returns-in-2 : goal.returns-in-2
 unfolding segment_records
-returns-in-2 c tie.Need-returns-2 unfolding segment_records returns-2 c = let t = c.before.before.before.before in laid t.before.before.before 2 t.match.keys2 c.before.before.dwell-records.ensures
+returns-in-2 c = laid (goal.at.returns-in-2 c).Start 2 c.in-2.is c.dwell_records.ensures
 
 pub returns-then-is_hrr_read : goal.returns-then-is_hrr_read
 unfolding segment_records
-returns-then-is_hrr_read c tie.Need-returns-3 unfolding segment_records returns-3 c =
-    let way = c.before.before.before.before in
-    let test = way.before in
-    laid test.before.before.before.before 3 test.before.match.keys3 (rw (sym test.is-hrr-read.ensures ∙ way.if1.true) c.before.before.hrr-records.ensures)
+returns-then-is_hrr_read c =
+    laid (goal.at.returns-then-is_hrr_read c).Start 3 c.in-3.is (rw (sym c.is_hrr_read.ensures ∙ c.if-is_hrr_read.true) c.hrr_records.ensures)
 
 pub returns-else-is_hrr_read : goal.returns-else-is_hrr_read
-returns-else-is_hrr_read c tie.Need-returns-4 returns-4 c =
-    let way = c.before.before.before.before in
-    let a = way.before.before.before.before.before.args in
-    laid-as-opaque a.r a.b.now a.segment-type (three way) a.o.now c.before.before.opaque-records.ensures
+returns-else-is_hrr_read c =
+    let a = c.args in
+    laid-as-opaque a.r a.b.now a.segment_type (three (goal.at.returns-else-is_hrr_read c).Else-is_hrr_read) a.o.now c.opaque_records.ensures
 
 pub returns-in-5 : goal.returns-in-5
 unfolding segment_records is_hrr
-returns-in-5 c tie.Need-returns-5 unfolding segment_records is_hrr returns-5 c = let t = c.before.before.before.before in laid t.before.before.before 5 t.match.keys4 c.before.before.job-records.ensures
+returns-in-5 c = laid (goal.at.returns-in-5 c).Start 5 c.in-5.is c.job_records.ensures
 
 pub returns-in-6 : goal.returns-in-6
 unfolding segment_records is_hrr
-returns-in-6 c tie.Need-returns-6 unfolding segment_records is_hrr returns-6 c = let t = c.before.before.before.before in laid t.before.before.before 6 t.match.keys5 c.before.before.text-records.ensures
+returns-in-6 c = laid (goal.at.returns-in-6 c).Start 6 c.in-6.is c.text_records.ensures
 
 pub returns-in-10 : goal.returns-in-10
 unfolding segment_records is_hrr
-returns-in-10 c tie.Need-returns-7 unfolding segment_records is_hrr returns-7 c = let t = c.before.before.before.before in laid t.before.before.before 10 t.match.keys6 c.before.before.test-records.ensures
+returns-in-10 c = laid (goal.at.returns-in-10 c).Start 10 c.in-10.is c.test_records.ensures
 
 pub returns-in-13 : goal.returns-in-13
 unfolding segment_records is_hrr
-returns-in-13 c tie.Need-returns-8 unfolding segment_records is_hrr returns-8 c = let t = c.before.before.before.before in laid t.before.before.before 13 t.match.keys7 c.before.before.location-records.ensures
+returns-in-13 c = laid (goal.at.returns-in-13 c).Start 13 c.in-13.is c.location_records.ensures
 
 pub returns-in_default : goal.returns-in_default
-returns-in_default c tie.Need-returns-9 returns-9 c =
-    let t = c.before.before.before.before in
-    let a = t.before.before.before.args in
-    laid-as-opaque a.r a.b.now a.segment-type (other t) a.o.now c.before.before.opaque-records2.ensures
+returns-in_default c =
+    let a = c.args in
+    laid-as-opaque a.r a.b.now a.segment_type (other (goal.at.returns-in_default c).In_default) a.o.now c.opaque_records-in_default.ensures

@@ -27,27 +27,25 @@ here c =
     turn c.args.r c.args.l.now c.loop-at.at c.loop-at.invariant.left (omega (arith, c.requires.0.short)) c.loop-at-test.true _ c.size_at-size.ensures
 
 pub loop-at-init : goal.loop-at-init
-loop-at-init c tie.Need-loop-init invariant-loop decreases-loop loop-holds c =
-    let s = c.before.before in
-    record { left = all_left s.args.r s.args.l.now s.requires.0; same = refl; room = omega (arith, s.requires.1); rest = refl }
+loop-at-init c =
+    record { left = all_left c.args.r c.args.l.now c.requires.0; same = refl; room = omega (arith, c.requires.1); rest = refl }
 
 pub size_at-size-requires : goal.size_at-size-requires
-size_at-size-requires c tie.Need-size-at-requires invariant-loop decreases-loop size-at-requires c =
-    let i = c.before.before in
-    let a = i.before.before.before.args in
-    headed a.r a.l.now i.loop.at i.loop.invariant.left c.before.loop-test.true
+size_at-size-requires c =
+    let a = c.args in
+    headed a.r a.l.now c.loop-at.at c.loop-at.invariant.left c.loop-at-test.true
 
 pub bounds-t-0 : goal.bounds-t-0
-bounds-t-0 c tie.Need-shared-slice-read-segment-type invariant-loop decreases-loop shared-slice-read-segment-type c = let t = here c.before in omega (arith, t.header, t.part)
+bounds-t-0 c = let t = here (goal.at.bounds-t-0 c).After-size_at-size in omega (arith, t.header, t.part)
 
 pub slice_bounds-b-count : goal.slice_bounds-b-count
-slice_bounds-b-count c tie.Need-overflow-sub-b invariant-loop decreases-loop sub-b c = (here c.before).header
+slice_bounds-b-count c = (here (goal.at.slice_bounds-b-count c).After-size_at-size).header
 
 pub slice_bounds-b-start : goal.slice_bounds-b-start
-slice_bounds-b-start c tie.Need-slice-bounds-b-start invariant-loop decreases-loop part-b-start c = omega (arith, (here c.before).header)
+slice_bounds-b-start c = omega (arith, (here (goal.at.slice_bounds-b-start c).After-size_at-size).header)
 
 pub slice_bounds-b-end : goal.slice_bounds-b-end
-slice_bounds-b-end c tie.Need-slice-bounds-b-end invariant-loop decreases-loop part-b-end c = (here c.before).part
+slice_bounds-b-end c = (here (goal.at.slice_bounds-b-end c).After-size_at-size).part
 
 -- its records have room
 room : (c : After-size_at-size) → let a = c.args in
@@ -55,45 +53,39 @@ room : (c : After-size_at-size) → let a = c.args in
 room c = let v = c.loop-at.invariant in omega (arith, v.room, v.same, (here c).lengths-are)
 
 pub slice_bounds-segment_records-count : goal.slice_bounds-segment_records-count
-slice_bounds-segment_records-count c tie.Need-overflow-sub-segment-records invariant-loop decreases-loop sub-segment-records c = omega (arith, room c.before.before)
+slice_bounds-segment_records-count c = omega (arith, room (goal.at.slice_bounds-segment_records-count c).After-size_at-size)
 
 pub slice_bounds-segment_records-start : goal.slice_bounds-segment_records-start
-slice_bounds-segment_records-start c tie.Need-slice-bounds-segment-records-start invariant-loop decreases-loop part-segment-records-start c = omega (arith, room c.before.before)
+slice_bounds-segment_records-start c = omega (arith, room (goal.at.slice_bounds-segment_records-start c).After-size_at-size)
 
 pub segment_records-to-requires : goal.segment_records-to-requires
-segment_records-to-requires c tie.Need-segment-records-requires invariant-loop decreases-loop segment-records-requires c =
-    let size = c.before.before.before in
-    let l = size.before.before.before.loop in
-    ((here size).checked, rw (tail-is l.to l.o, length-drop) (omega (arith, room size)))
+segment_records-to-requires c =
+    let l = c.loop-at in
+    ((here (goal.at.segment_records-to-requires c).After-size_at-size).checked, rw (tail-is l.to l.o, length-drop) (omega (arith, room (goal.at.segment_records-to-requires c).After-size_at-size)))
 
 pub overflow_add-to : goal.overflow_add-to
-overflow_add-to c tie.Need-overflow-add-to invariant-loop decreases-loop add-to c =
-    let laid = c.before.before in
-    let size = laid.before.before.before.before in
-    omega (arith, laid.segment-records.ensures.0, room size, size.before.before.before.before.before.before.well-formed)
+overflow_add-to c =
+    omega (arith, c.segment_records-to.ensures.0, room (goal.at.overflow_add-to c).After-size_at-size, c.well-formed)
 
 pub overflow_add-at : goal.overflow_add-at
-overflow_add-at c tie.Need-overflow-add-at invariant-loop decreases-loop add_at c =
-    let size = c.before.before.before.before.before.before in
-    omega (arith, (here size).within, size.before.before.before.before.before.before.well-formed)
+overflow_add-at c =
+    omega (arith, (here (goal.at.overflow_add-at c).After-size_at-size).within, c.well-formed)
 
 pub loop-at-smaller : goal.loop-at-smaller
-loop-at-smaller c tie.Need-loop-smaller invariant-loop decreases-loop loop-less c = let t = here c.before.before.before.before.before.before in omega (arith, t.header, t.within)
+loop-at-smaller c = let t = here (goal.at.loop-at-smaller c).After-size_at-size in omega (arith, t.header, t.within)
 
 pub loop-at-preserved : goal.loop-at-preserved
-loop-at-preserved c tie.Need-loop-preserved invariant-loop decreases-loop loop-again c =
-    let laid = c.before.before in
-    let size = laid.before.before.before.before in
-    let l = size.before.before.before.loop in
-    let t = here size in
-    let a = size.before.before.before.before.before.before.args in
-    let first = bytes_at a.r a.l.now l.at size.size-at.result in
-    let long = laid.segment-records.ensures.0 in
-    let stored = laid.segment-records.ensures.1 in
+loop-at-preserved c =
+    let l = c.loop-at in
+    let t = here (goal.at.loop-at-preserved c).After-size_at-size in
+    let a = c.args in
+    let first = bytes_at a.r a.l.now l.at c.size_at-size.result in
+    let long = c.segment_records-to.ensures.0 in
+    let stored = c.segment_records-to.ensures.1 in
     record {
       left = t.next;
       same = filled-length l.o first l.to stored ∙ l.invariant.same;
-      room = omega (arith, long, room size, l.invariant.same);
+      room = omega (arith, long, room (goal.at.loop-at-preserved c).After-size_at-size, l.invariant.same);
       rest =
           filled_next l.o (bytes_left t.next) first l.to _ long stored
           ∙ sym (ap (sets l.o l.to) t.bytes-are)
@@ -101,11 +93,10 @@ loop-at-preserved c tie.Need-loop-preserved invariant-loop decreases-loop loop-a
     }
 
 pub shape_of-o : goal.shape_of-o
-shape_of-o c tie.Need-same-length invariant-loop decreases-loop same_length c = c.before.loop.invariant.same
+shape_of-o c = c.loop-at.invariant.same
 
 pub returns : goal.returns
-returns c tie.Need-returns invariant-loop decreases-loop returns c =
-    let i = c.before in
-    let a = i.before.before.before.args in
-    let n = nothing_left a.r a.l.now i.loop.at i.loop.invariant.left (omega arith) in
-    sym (ap (sets i.loop.o i.loop.to) n) ∙ i.loop.invariant.rest
+returns c =
+    let a = c.args in
+    let n = nothing_left a.r a.l.now c.loop-at.at c.loop-at.invariant.left (omega arith) in
+    sym (ap (sets c.loop-at.o c.loop-at.to) n) ∙ c.loop-at.invariant.rest

@@ -28,34 +28,30 @@ module _ (c : After-reading_of-r) where
 
 pub header_record-requires : goal.header_record-requires
 unfolding body_length
-header_record-requires c tie.Need-header-record-requires unfolding body_length header-record-requires c = let r = c.before in ((known r).headed, omega (arith, (known r).sheet-length, (start r).requires.1))
+header_record-requires c = ((known (goal.at.header_record-requires c).After-reading_of-r).headed, omega (arith, (known (goal.at.header_record-requires c).After-reading_of-r).sheet-length, (start (goal.at.header_record-requires c).After-reading_of-r).requires.1))
 
 pub slice_bounds-packet_records-count : goal.slice_bounds-packet_records-count
-slice_bounds-packet_records-count c tie.Need-overflow-sub-packet-records sub-packet-records c = omega (arith, (known c.before.before.before.before).headed)
+slice_bounds-packet_records-count c = omega (arith, (known (goal.at.slice_bounds-packet_records-count c).After-reading_of-r).headed)
 
 pub slice_bounds-packet_records-start : goal.slice_bounds-packet_records-start
-slice_bounds-packet_records-start c tie.Need-slice-bounds-packet-records-start part-packet-records-start c = omega (arith, (known c.before.before.before.before).headed)
+slice_bounds-packet_records-start c = omega (arith, (known (goal.at.slice_bounds-packet_records-start c).After-reading_of-r).headed)
 
 -- the sheet has room behind the header's record
 room : (c : After-header_record) → record_length 1 + length (all_bytes c.reading_of-r.result (behind (packet (goal.at.After-header_record c).After-reading_of-r))) ≤ length c.header_record.new.1.0
 room c = omega (arith, c.header_record.auto, (known (goal.at.After-header_record c).After-reading_of-r).sheet-length, (start (goal.at.After-header_record c).After-reading_of-r).requires.1)
 
 pub slice_bounds-packet_records-count-2 : goal.slice_bounds-packet_records-count-2
-slice_bounds-packet_records-count-2 c tie.Need-overflow-sub-packet-records-2 sub-packet-records-2 c = omega (arith, room c.before.before.before)
+slice_bounds-packet_records-count-2 c = omega (arith, room (goal.at.slice_bounds-packet_records-count-2 c).After-header_record)
 
 pub slice_bounds-packet_records-start-2 : goal.slice_bounds-packet_records-start-2
-slice_bounds-packet_records-start-2 c tie.Need-slice-bounds-packet-records-start-2 part-packet-records-start-2 c = omega (arith, room c.before.before.before)
+slice_bounds-packet_records-start-2 c = omega (arith, room (goal.at.slice_bounds-packet_records-start-2 c).After-header_record)
 
 pub packet_records-requires : goal.packet_records-requires
-packet_records-requires c tie.Need-packet-records-requires packet-records-requires c =
-    let h = c.before.before.before.before in
-    let o = h.header-record.new.1.0 in
-    ((known h.before.before).checked, rw (tail-is (record_length 1) o, length-drop (record_length 1) o) (omega (arith, room h)))
+packet_records-requires c =
+    let o = c.header_record.new.1.0 in
+    ((known (goal.at.packet_records-requires c).After-reading_of-r).checked, rw (tail-is (record_length 1) o, length-drop (record_length 1) o) (omega (arith, room (goal.at.packet_records-requires c).After-header_record)))
 
 pub returns : goal.returns
-returns c tie.Need-returns returns c =
-    let laid = c.before.before in
-    let h = laid.before.before.before.before.before in
-    let r = h.before.before in
-    let lent = (start r).args.sheet.now in
-    laid-behind (packet r) lent h.header-record.new.1.0 _ _ h.header-record.ensures laid.packet-records.ensures ∙ sym (ap (sets lent 0) (known r).sheet-is)
+returns c =
+    let lent = (start (goal.at.returns c).After-reading_of-r).args.sheet.now in
+    laid-behind (packet (goal.at.returns c).After-reading_of-r) lent c.header_record.new.1.0 _ _ c.header_record.ensures c.packet_records.ensures ∙ sym (ap (sets lent 0) (known (goal.at.returns c).After-reading_of-r).sheet-is)

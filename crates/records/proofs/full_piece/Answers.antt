@@ -5,7 +5,6 @@ use Rattle.records.proofs.Pieces.{full-laid}
 use Rattle.records.proofs.full_piece.Goals as goal
 
 pub returns : goal.returns
-returns c tie.Need-returns returns c =
-    let count = c.before.before.before.before.before.before in
-    let kind = count.before.before.before.before in let a = kind.before.before.before.before.args in
-    full-laid a.b.now a.o.now (omega arith) kind.put_byte.ensures count.put-byte2.ensures c.before.before.copy32.ensures
+returns c =
+    let a = c.args in
+    full-laid a.b.now a.o.now (omega arith) c.put_byte.ensures c.put_byte-2.ensures c.copy32.ensures

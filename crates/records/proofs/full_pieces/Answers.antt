@@ -12,18 +12,18 @@ use Rattle.records.proofs.Pieces.{pieces-next, pieces-first, pieces-last}
 use Rattle.records.proofs.full_pieces.Goals as goal
 
 pub loop-i-init : goal.loop-i-init
-loop-i-init c tie.Need-loop-init invariant-loop decreases-loop loop-holds c = let a = c.before.before.args in (search rules, search rules, pieces-first a.count a.b.now a.o.now)
+loop-i-init c = let a = c.args in (search rules, search rules, pieces-first a.count a.b.now a.o.now)
 
 pub loop-i-preserved : goal.loop-i-preserved
-loop-i-preserved c tie.Need-loop-preserved invariant-loop decreases-loop loop-again c =
-    let loop = c.before.before.before.before.before.before in let a = loop.before.before.before.args in
-    let l = loop.loop in (
+loop-i-preserved c =
+    let a = c.args in
+    let l = c.loop-i in (
       search rules,
       search rules,
       pieces-next a.count l.i a.b.now l.o (sets a.o.now 0 (record_bytes (piece_records a.count a.b.now))) (search rules)
-          (part-laid (λ (t c List ℕ). record_bytes (piece_record t ∷ [])) a.b.now l.o (l.i * 32) (l.i * record_length 6) c.before.before.full-piece.ensures) l.invariant.2,
+          (part-laid (λ (t : List ℕ). record_bytes (piece_record t ∷ [])) a.b.now l.o (l.i * 32) (l.i * record_length 6) c.full_piece.ensures) l.invariant.2,
     )
 
 pub returns : goal.returns
-returns c tie.Need-returns invariant-loop decreases-loop returns c = let a = c.before.before.before.before.args in let l = c.before.loop in
+returns c = let a = c.args in let l = c.loop-i in
     pieces-last a.count l.i a.b.now l.o _ (search rules) l.invariant.2

@@ -15,17 +15,15 @@ long s = length-take-le (body_length 1) s.args.l.now s.requires.0
 
 pub slice_bounds-copy32-end : goal.slice_bounds-copy32-end
 unfolding body_length
-slice_bounds-copy32-end c tie.Need-slice-aggregate-copy32 unfolding body_length slice-aggregate-copy32 c = sym (long c.before.before.before.before.before.before.before)
+slice_bounds-copy32-end c = sym (long (goal.at.slice_bounds-copy32-end c).Start)
 
 pub copy32-requires : goal.copy32-requires
 unfolding body_length
-copy32-requires c tie.Need-copy32-requires unfolding body_length copy32-requires c = let e = long c.before.before.before.before.before.before.before.before in (omega (arith, e), omega arith)
+copy32-requires c = let e = long (goal.at.copy32-requires c).Start in (omega (arith, e), omega arith)
 
 pub returns : goal.returns
 unfolding body_length header_record
-returns c tie.Need-returns unfolding body_length header_record returns c =
-    let kind = c.before.before.before.before.before.before.before in
-    let s = kind.before.before.before.before in
-    let l = s.args.l.now in
-    record-copied 1 l s.args.o.now s.requires.0 kind.put_byte.ensures
-    (c.before.before.copy32.ensures ∙ ap (sets kind.put_byte.new.0 1) (take_all (body_length 1) (take (body_length 1) l) (omega (arith, long s))))
+returns c =
+    let l = c.args.l.now in
+    record-copied 1 l c.args.o.now c.requires.0 c.put_byte.ensures
+    (c.copy32.ensures ∙ ap (sets c.put_byte.new.0 1) (take_all (body_length 1) (take (body_length 1) l) (omega (arith, long (goal.at.returns c).Start))))

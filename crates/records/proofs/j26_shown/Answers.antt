@@ -4,7 +4,7 @@ use mathlib.Core.Path.{sym, ◌∙◌}
 use Rattle.records.proofs.j26_shown.Goals as goal
 
 pub returns-then-is_older : goal.returns-then-is_older
-returns-then-is_older c tie.Need-returns returns c = rw (sym c.before.is-older.ensures ∙ c.if1.true)
+returns-then-is_older c = rw (sym c.is_older.ensures ∙ c.if-is_older.true)
 
 pub returns-else-is_older : goal.returns-else-is_older
-returns-else-is_older c tie.Need-returns-2 returns-2 c = rw (sym c.before.is-older.ensures ∙ c.if1.false)
+returns-else-is_older c = rw (sym c.is_older.ensures ∙ c.if-is_older.false)

@@ -18,23 +18,18 @@ unfolding body_length
 long s = length-take-le 68 s.args.b.now (omega (arith, s.requires.0))
 
 pub slice_bounds-copy64_to_72-end : goal.slice_bounds-copy64_to_72-end
-slice_bounds-copy64_to_72-end c tie.Need-slice-aggregate-copy64-to-72 slice-aggregate-copy64-to-72 c = sym (long c.before.before.before.before.before.before.before)
+slice_bounds-copy64_to_72-end c = sym (long (goal.at.slice_bounds-copy64_to_72-end c).Start)
 
 pub copy64_to_72-requires : goal.copy64_to_72-requires
-copy64_to_72-requires c tie.Need-copy64-to-72-requires copy64-to-72-requires c = let e = long c.before.before.before.before.before.before.before.before in (omega (arith, e), omega (arith, e), omega (arith, e))
+copy64_to_72-requires c = let e = long (goal.at.copy64_to_72-requires c).Start in (omega (arith, e), omega (arith, e), omega (arith, e))
 
 pub bounds-b-65 : goal.bounds-b-65
 unfolding body_length
-bounds-b-65 c tie.Need-shared-slice-read-j26-shown unfolding body_length shared-slice-read-j26-shown c = search rules
+bounds-b-65 c = search rules
 
 pub returns : goal.returns
-returns c tie.Need-returns returns c =
-    let mark = c.before.before.before in
-    let shown = mark.before.before.before.before in
-    let byte = shown.before in
-    let body = byte.before.before.before.before.before in
-    let kind = body.before.before.before.before.before in
-    let s = kind.before.before.before.before in let a = s.args in
-    job-laid a.r a.b.now a.o.now s.requires.0 kind.put_byte.ensures body.copy64-to-72.ensures
-    (shown.put-byte2.ensures ∙ ap (λ (v c ℕ). sets body.copy64-to-72.new.1.0 66 (v ∷ [])) byte.j26-shown.ensures)
-    (c.before.before.put-byte3.ensures ∙ ap (λ (v c ℕ). sets shown.put-byte2.new.0 69 (v ∷ [])) mark.mark_of.ensures)
+returns c =
+    let a = c.args in
+    job-laid a.r a.b.now a.o.now c.requires.0 c.put_byte.ensures c.copy64_to_72.ensures
+    (c.put_byte-2.ensures ∙ ap (λ (v : ℕ). sets c.copy64_to_72.new.1.0 66 (v ∷ [])) c.j26_shown.ensures)
+    (c.put_byte-3.ensures ∙ ap (λ (v : ℕ). sets c.put_byte-2.new.0 69 (v ∷ [])) c.mark_of.ensures)

@@ -15,15 +15,13 @@ long s = length-take-le (body_length 10) s.args.b.now (omega (arith, s.requires.
 
 pub slice_bounds-copy16_to_32-end : goal.slice_bounds-copy16_to_32-end
 unfolding body_length
-slice_bounds-copy16_to_32-end c tie.Need-slice-aggregate-copy16-to-32 unfolding body_length slice-aggregate-copy16-to-32 c = sym (long c.before.before.before.before.before.before.before)
+slice_bounds-copy16_to_32-end c = sym (long (goal.at.slice_bounds-copy16_to_32-end c).Start)
 
 pub copy16_to_32-requires : goal.copy16_to_32-requires
 unfolding body_length
-copy16_to_32-requires c tie.Need-copy16-to-32-requires unfolding body_length copy16-to-32-requires c = let e = long c.before.before.before.before.before.before.before.before in (omega (arith, e), omega (arith, e), omega (arith, e))
+copy16_to_32-requires c = let e = long (goal.at.copy16_to_32-requires c).Start in (omega (arith, e), omega (arith, e), omega (arith, e))
 
 pub returns : goal.returns
 unfolding body_length
-returns c tie.Need-returns unfolding body_length returns c =
-    let kind = c.before.before.before.before.before.before.before in
-    let s = kind.before.before.before.before in
-    record-copied 10 s.args.b.now s.args.o.now (omega (arith, s.requires.0)) kind.put_byte.ensures c.before.before.copy16-to-32.ensures
+returns c =
+    record-copied 10 c.args.b.now c.args.o.now (omega (arith, c.requires.0)) c.put_byte.ensures c.copy16_to_32.ensures

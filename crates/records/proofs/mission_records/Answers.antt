@@ -15,15 +15,13 @@ long s = length-take-le (body_length 2) s.args.b.now (omega (arith, s.requires.0
 
 pub slice_bounds-copy32_to_40-end : goal.slice_bounds-copy32_to_40-end
 unfolding body_length
-slice_bounds-copy32_to_40-end c tie.Need-slice-aggregate-copy32-to-40 unfolding body_length slice-aggregate-copy32-to-40 c = sym (long c.before.before.before.before.before.before.before)
+slice_bounds-copy32_to_40-end c = sym (long (goal.at.slice_bounds-copy32_to_40-end c).Start)
 
 pub copy32_to_40-requires : goal.copy32_to_40-requires
 unfolding body_length
-copy32_to_40-requires c tie.Need-copy32-to-40-requires unfolding body_length copy32-to-40-requires c = let e = long c.before.before.before.before.before.before.before.before in (omega (arith, e), omega (arith, e), omega (arith, e))
+copy32_to_40-requires c = let e = long (goal.at.copy32_to_40-requires c).Start in (omega (arith, e), omega (arith, e), omega (arith, e))
 
 pub returns : goal.returns
 unfolding body_length
-returns c tie.Need-returns unfolding body_length returns c =
-    let kind = c.before.before.before.before.before.before.before in
-    let s = kind.before.before.before.before in
-    record-copied 2 s.args.b.now s.args.o.now (omega (arith, s.requires.0)) kind.put_byte.ensures c.before.before.copy32-to-40.ensures
+returns c =
+    record-copied 2 c.args.b.now c.args.o.now (omega (arith, c.requires.0)) c.put_byte.ensures c.copy32_to_40.ensures

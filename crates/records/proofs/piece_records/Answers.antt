@@ -12,28 +12,28 @@ use Rattle.records.proofs.piece_records.Goals as goal
 
 pub full_pieces-requires : goal.full_pieces-requires
 unfolding piece_count
-full_pieces-requires c tie.Need-full-pieces-requires unfolding piece_count full-pieces-requires c = search rules
+full_pieces-requires c = search rules
 
 pub slice_bounds-last_piece-count-then-full-b : goal.slice_bounds-last_piece-count-then-full-b
 unfolding piece_count
-slice_bounds-last_piece-count-then-full-b c tie.Need-overflow-sub-last-piece-2 unfolding piece_count sub-last-piece-2 c = search rules
+slice_bounds-last_piece-count-then-full-b c = search rules
 
 pub slice_bounds-last_piece-start-then-full-b : goal.slice_bounds-last_piece-start-then-full-b
 unfolding piece_count
-slice_bounds-last_piece-start-then-full-b c tie.Need-slice-bounds-last-piece-start-2 unfolding piece_count part-last-piece-start-2 c = search rules
+slice_bounds-last_piece-start-then-full-b c = search rules
 
 pub last_piece-requires : goal.last_piece-requires
 unfolding piece_count
-last_piece-requires c tie.Need-last-piece-requires unfolding piece_count last-piece-requires c = search rules
+last_piece-requires c = search rules
 
 pub returns-then-full-b : goal.returns-then-full-b
-returns-then-full-b c tie.Need-returns returns c =
-    let full = c.before.before.before.before.before.before.before.before in let a = full.before.before.before.before.args in
+returns-then-full-b c =
+    let a = c.args in
     let n = length a.b.now / 32 in
-    pieces-with-last a.b.now a.o.now (search rules) full.full-pieces.ensures
-    (part-laid (λ (t c List ℕ). record_bytes (piece_record t ∷ [])) a.b.now full.full-pieces.new.1.1.0 (n * 32) (n * record_length 6) c.before.before.last-piece.ensures)
+    pieces-with-last a.b.now a.o.now (search rules) c.full_pieces.ensures
+    (part-laid (λ (t : List ℕ). record_bytes (piece_record t ∷ [])) a.b.now c.full_pieces.new.1.1.0 (n * 32) (n * record_length 6) c.last_piece.ensures)
 
 pub returns-else-full-b : goal.returns-else-full-b
-returns-else-full-b c tie.Need-returns-2 returns-2 c =
-    let full = c.before.before.before in let a = full.before.before.before.before.args in
-    pieces-all-full a.b.now a.o.now (search rules) full.full-pieces.ensures
+returns-else-full-b c =
+    let a = c.args in
+    pieces-all-full a.b.now a.o.now (search rules) c.full_pieces.ensures

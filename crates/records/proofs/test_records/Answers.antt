@@ -15,15 +15,13 @@ long s = length-take-le (body_length 9) s.args.b.now (omega (arith, s.requires.0
 
 pub slice_bounds-copy8_to_16-end : goal.slice_bounds-copy8_to_16-end
 unfolding body_length
-slice_bounds-copy8_to_16-end c tie.Need-slice-aggregate-copy8-to-16 unfolding body_length slice-aggregate-copy8-to-16 c = sym (long c.before.before.before.before.before.before.before)
+slice_bounds-copy8_to_16-end c = sym (long (goal.at.slice_bounds-copy8_to_16-end c).Start)
 
 pub copy8_to_16-requires : goal.copy8_to_16-requires
 unfolding body_length
-copy8_to_16-requires c tie.Need-copy8-to-16-requires unfolding body_length copy8-to-16-requires c = let e = long c.before.before.before.before.before.before.before.before in (omega (arith, e), omega (arith, e), omega (arith, e))
+copy8_to_16-requires c = let e = long (goal.at.copy8_to_16-requires c).Start in (omega (arith, e), omega (arith, e), omega (arith, e))
 
 pub returns : goal.returns
 unfolding body_length
-returns c tie.Need-returns unfolding body_length returns c =
-    let kind = c.before.before.before.before.before.before.before in
-    let s = kind.before.before.before.before in
-    record-copied 9 s.args.b.now s.args.o.now (omega (arith, s.requires.0)) kind.put_byte.ensures c.before.before.copy8-to-16.ensures
+returns c =
+    record-copied 9 c.args.b.now c.args.o.now (omega (arith, c.requires.0)) c.put_byte.ensures c.copy8_to_16.ensures

@@ -13,14 +13,11 @@ long : (s : Start) → length (take 20 s.args.b.now) ≡ 20
 long s = length-take-le 20 s.args.b.now s.requires.0
 
 pub slice_bounds-copy16_to_32-end : goal.slice_bounds-copy16_to_32-end
-slice_bounds-copy16_to_32-end c tie.Need-slice-aggregate-copy16-to-32 slice-aggregate-copy16-to-32 c = sym (long c.before.before.before.before.before.before.before)
+slice_bounds-copy16_to_32-end c = sym (long (goal.at.slice_bounds-copy16_to_32-end c).Start)
 
 pub copy16_to_32-requires : goal.copy16_to_32-requires
-copy16_to_32-requires c tie.Need-copy16-to-32-requires copy16-to-32-requires c = let e = long c.before.before.before.before.before.before.before.before in (omega (arith, e), omega (arith, e), omega (arith, e))
+copy16_to_32-requires c = let e = long (goal.at.copy16_to_32-requires c).Start in (omega (arith, e), omega (arith, e), omega (arith, e))
 
 pub returns : goal.returns
-returns c tie.Need-returns returns c =
-    let front = c.before.before.before.before.before.before in
-    let kind = front.before.before.before.before.before in
-    let s = kind.before.before.before.before in
-    text-first s.args.b.now s.args.o.now s.requires.0 kind.put_byte.ensures front.copy16-to-32.ensures c.before.before.put-u32.ensures
+returns c =
+    text-first c.args.b.now c.args.o.now c.requires.0 c.put_byte.ensures c.copy16_to_32.ensures c.put_u32.ensures

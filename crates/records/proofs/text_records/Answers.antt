@@ -11,10 +11,10 @@ use Rattle.records.proofs.text_records.Goals as goal
 
 pub piece_records-requires : goal.piece_records-requires
 unfolding piece_count
-piece_records-requires c tie.Need-piece-records-requires unfolding piece_count piece-records-requires c = search rules
+piece_records-requires c = search rules
 
 pub returns : goal.returns
-returns c tie.Need-returns returns c =
-    let head = c.before.before.before.before.before.before.before in let a = head.before.before.before.before.args in
-    text-laid a.b.now a.o.now head.text-record.ensures
-    (part-laid (λ (t c List ℕ). record_bytes (pieces_of t)) a.b.now head.text-record.new.1.0 20 (record_length 5) c.before.before.piece-records.ensures)
+returns c =
+    let a = c.args in
+    text-laid a.b.now a.o.now c.text_record.ensures
+    (part-laid (λ (t : List ℕ). record_bytes (pieces_of t)) a.b.now c.text_record.new.1.0 20 (record_length 5) c.piece_records.ensures)

@@ -15,39 +15,37 @@ is s k e h = row_as s.args.r s.args.b.now s.args.segment_type k e h
 
 pub returns-in-1 : goal.returns-in-1
 unfolding body_rows
-returns-in-1 c tie.Need-returns unfolding body_rows returns c = is c.before.before.before 1 c.before.match.keys1 c.mission-check.ensures
+returns-in-1 c = is (goal.at.returns-in-1 c).Start 1 c.in-1.is c.mission_check.ensures
 
 pub returns-in-2 : goal.returns-in-2
 unfolding body_rows
-returns-in-2 c tie.Need-returns-2 unfolding body_rows returns-2 c = is c.before.before.before 2 c.before.match.keys2 c.dwell-check.ensures
+returns-in-2 c = is (goal.at.returns-in-2 c).Start 2 c.in-2.is c.dwell_check.ensures
 
 pub returns-then-is_hrr_read : goal.returns-then-is_hrr_read
 unfolding body_rows
-returns-then-is_hrr_read c tie.Need-returns-3 unfolding body_rows returns-3 c =
-    let test = c.before.before in
-    is test.before.before.before 3 test.before.match.keys3 (rw (sym test.is-hrr-read.ensures ∙ c.before.if1.true) c.hrr-check.ensures)
+returns-then-is_hrr_read c =
+    is (goal.at.returns-then-is_hrr_read c).Start 3 c.in-3.is (rw (sym c.is_hrr_read.ensures ∙ c.if-is_hrr_read.true) c.hrr_check.ensures)
 
 pub returns-else-is_hrr_read : goal.returns-else-is_hrr_read
 unfolding body_rows first_row
-returns-else-is_hrr_read c tie.Need-returns-4 unfolding body_rows first_row returns-4 c =
-    let test = c.before in
-    is test.before.before.before 3 test.before.match.keys3 (rw (sym test.is-hrr-read.ensures ∙ c.if1.false))
+returns-else-is_hrr_read c =
+    is (goal.at.returns-else-is_hrr_read c).Start 3 c.in-3.is (rw (sym c.is_hrr_read.ensures ∙ c.if-is_hrr_read.false))
 
 pub returns-in-5 : goal.returns-in-5
 unfolding body_rows is_hrr
-returns-in-5 c tie.Need-returns-5 unfolding body_rows is_hrr returns-5 c = is c.before.before.before 5 c.before.match.keys4 c.job-check.ensures
+returns-in-5 c = is (goal.at.returns-in-5 c).Start 5 c.in-5.is c.job_check.ensures
 
 pub returns-in-6 : goal.returns-in-6
 unfolding body_rows is_hrr
-returns-in-6 c tie.Need-returns-6 unfolding body_rows is_hrr returns-6 c = is c.before.before.before 6 c.before.match.keys5 c.text-check.ensures
+returns-in-6 c = is (goal.at.returns-in-6 c).Start 6 c.in-6.is c.text_check.ensures
 
 pub returns-in-10 : goal.returns-in-10
 unfolding body_rows is_hrr
-returns-in-10 c tie.Need-returns-7 unfolding body_rows is_hrr returns-7 c = is c.before.before.before 10 c.before.match.keys6 c.kept-check.ensures
+returns-in-10 c = is (goal.at.returns-in-10 c).Start 10 c.in-10.is c.kept_check.ensures
 
 pub returns-in-13 : goal.returns-in-13
 unfolding body_rows is_hrr
-returns-in-13 c tie.Need-returns-8 unfolding body_rows is_hrr returns-8 c = is c.before.before.before 13 c.before.match.keys7 c.kept-check2.ensures
+returns-in-13 c = is (goal.at.returns-in-13 c).Start 13 c.in-13.is c.kept_check-in-13.ensures
 
 pub returns-in_default : goal.returns-in_default
-returns-in_default c tie.Need-returns-9 returns-9 c = let a = c.before.before.args in row_other a.r a.b.now a.segment-type c.match.rest
+returns-in_default c = let a = c.args in row_other a.r a.b.now a.segment_type c.in_default.rest

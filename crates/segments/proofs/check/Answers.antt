@@ -33,27 +33,23 @@ abbrev start : In-Good → Start
 start c = (place c).before.before
 
 pub loop-at-init : goal.loop-at-init
-loop-at-init c tie.Need-loop-init invariant-loop decreases-loop loop-holds c =
-    let a = c.before.args in
+loop-at-init c =
+    let a = c.args in
     record { walked = walk_start a.r a.l.now; segments-le = zero-le; dwells-le = (zero-le, zero-le); targets-le = zero-le; length-le = omega arith }
 
 pub segment_at-requires : goal.segment_at-requires
-segment_at-requires c tie.Need-segment-at-requires invariant-loop decreases-loop segment-at-requires c =
-    let i = c.before.before in
-    let s = i.before.before in
-    rw (tail-is i.loop.at s.args.l.now, length-drop) (omega (arith, s.requires))
+segment_at-requires c =
+    rw (tail-is c.loop-at.at c.args.l.now, length-drop) (omega (arith, c.requires))
 
 pub overflow_add-result : goal.overflow_add-result
-overflow_add-result c tie.Need-overflow-add-t19 invariant-loop decreases-loop add-t19 c =
-    let i = c.before.before.before.before.before.before in
-    omega (arith, i.loop.invariant.segments-le, i.loop.invariant.walked.within, i.before.before.requires)
+overflow_add-result c =
+    omega (arith, c.loop-at.invariant.segments-le, c.loop-at.invariant.walked.within, c.requires)
 
 pub returns-in-Bad : goal.returns-in-Bad
-returns-in-Bad c tie.Need-returns invariant-loop decreases-loop returns c =
-    let found = c.before.before.before in
-    let l = found.before.before.before.loop in
-    let a = found.before.before.before.before.before.args in
-    walk-bad a.r a.l.now l.at found.segment-at.ensures l.invariant.walked found.before.before.loop-test.true _ _ c.before.number.given.1
+returns-in-Bad c =
+    let l = c.loop-at in
+    let a = c.args in
+    walk-bad a.r a.l.now l.at c.segment_at.ensures l.invariant.walked c.loop-at-test.true _ _ c.in-Bad.is
 
 -- the segment is good
 good : (c : In-Good) → let g = c.size-1.given.0 in
@@ -72,37 +68,35 @@ sized c =
     fit (start c).args.r (drop at l) _ _ _ h (drop-bytes at l (λ i. ((place c).before.shared-slice-known.given i).fits)) (good c)
 
 pub overflow_add-segments : goal.overflow_add-segments
-overflow_add-segments c tie.Need-overflow-add-segments invariant-loop decreases-loop add-segments c = omega (arith, (place c).loop.invariant.segments-le, (place c).loop.invariant.walked.within, (start c).requires)
+overflow_add-segments c = omega (arith, (place c).loop.invariant.segments-le, (place c).loop.invariant.walked.within, (start c).requires)
 
 pub dwells_past-dwells-requires : goal.dwells_past-dwells-requires
-dwells_past-dwells-requires c tie.Need-dwells-past-requires invariant-loop decreases-loop dwells-past-requires c =
+dwells_past-dwells-requires c =
     let i = (place c).loop.invariant in
-    (rw (tail-is (place c).loop.at (start c).args.l.now) (good c).rows, (omega (arith, i.dwells-le.0, i.segments-le, i.walked.within, (start c).requires), omega (arith, i.dwells-le.1, i.segments-le, i.walked.within, (start c).requires)))
+    (rw (tail-is (place c).loop.at (start c).args.l.now) (good (goal.at.dwells_past-dwells-requires c).In-Good).rows, (omega (arith, i.dwells-le.0, i.segments-le, i.walked.within, (start c).requires), omega (arith, i.dwells-le.1, i.segments-le, i.walked.within, (start c).requires)))
 
 pub overflow_add-targets : goal.overflow_add-targets
-overflow_add-targets c tie.Need-overflow-add-targets invariant-loop decreases-loop add-targets c = let g = c.before in let i = (place g).loop.invariant in omega (arith, (sized g).few, i.targets-le, i.walked.within, (start g).requires)
+overflow_add-targets c = let i = (place c).loop.invariant in omega (arith, (sized (goal.at.overflow_add-targets c).In-Good).few, i.targets-le, i.walked.within, (start c).requires)
 
 pub overflow_add-length : goal.overflow_add-length
-overflow_add-length c tie.Need-overflow-add-length invariant-loop decreases-loop add-length c = let g = c.before in let i = (place g).loop.invariant in omega (arith, (sized g).short, i.length-le, i.walked.within, (start g).requires)
+overflow_add-length c = let i = (place c).loop.invariant in omega (arith, (sized (goal.at.overflow_add-length c).In-Good).short, i.length-le, i.walked.within, (start c).requires)
 
 pub overflow_add-at : goal.overflow_add-at
-overflow_add-at c tie.Need-overflow-add-at invariant-loop decreases-loop add_at c = let g = c.before in let i = (place g).loop.invariant in omega (arith, simp length-drop at (sized g).within, i.walked.within, (start g).requires)
+overflow_add-at c = let i = (place c).loop.invariant in omega (arith, simp length-drop at (sized (goal.at.overflow_add-at c).In-Good).within, i.walked.within, (start c).requires)
 
 pub loop-at-smaller : goal.loop-at-smaller
-loop-at-smaller c tie.Need-loop-smaller invariant-loop decreases-loop loop-less c = omega (arith, (sized c.before).header)
+loop-at-smaller c = omega (arith, (sized (goal.at.loop-at-smaller c).In-Good).header)
 
 pub loop-at-preserved : goal.loop-at-preserved
-loop-at-preserved c tie.Need-loop-preserved invariant-loop decreases-loop loop-again c =
-    let g = c.before in
-    let found = g.before.before.before in
-    let a = (start g).args in
-    let l = (place g).loop in
+loop-at-preserved c =
+    let a = (start c).args in
+    let l = (place c).loop in
     let i = l.inv in
-    let f = sized g in
+    let f = sized (goal.at.loop-at-preserved c).In-Good in
     record {
-      walked = walk-good a.r a.l.now l.at found.segment-at.ensures i.walked found.before.before.loop-test.true _ _ _ g.before.size.given.1 c.dwells-past.ensures;
+      walked = walk-good a.r a.l.now l.at c.segment_at.ensures i.walked c.loop-at-test.true _ _ _ c.in-Good.is c.dwells_past-dwells.ensures;
       segments-le = omega (arith, f.header, i.segments-le);
-      dwells-le = past-at-most l.segments l.dwells _ _ c.dwells-past.ensures i.dwells-le;
+      dwells-le = past-at-most l.segments l.dwells _ _ c.dwells_past-dwells.ensures i.dwells-le;
       targets-le = omega (arith, f.header, f.few, i.targets-le);
       length-le = omega (arith, f.header, f.short, i.length-le);
     }
@@ -116,11 +110,10 @@ ended c =
     walk_end a.r a.l.now l.at l.invariant.walked (omega arith)
 
 pub dwell_count-requires : goal.dwell_count-requires
-dwell_count-requires c tie.Need-dwell-count-requires invariant-loop decreases-loop dwell-count-requires c =
-    let s = c.before.before.before in
-    (record { short = s.requires; ending = (ended c).ending }, (ended c).dwells)
+dwell_count-requires c =
+    (record { short = c.requires; ending = (ended (goal.at.dwell_count-requires c).After-loop-at).ending }, (ended (goal.at.dwell_count-requires c).After-loop-at).dwells)
 
 pub returns : goal.returns
-returns c tie.Need-returns-2 invariant-loop decreases-loop returns-2 c =
-    let l = c.before.before.loop in
-    ap (λ (d c ℕ). Accepted l.segments d l.targets l.length) c.dwell-count.ensures ∙ (ended c.before).answer
+returns c =
+    let l = c.loop-at in
+    ap (λ (d : ℕ). Accepted l.segments d l.targets l.length) c.dwell_count.ensures ∙ (ended (goal.at.returns c).After-loop-at).answer

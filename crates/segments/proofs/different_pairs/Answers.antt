@@ -28,18 +28,16 @@ as_long c =
     ap length c.pairs_of-n.ensures.1 ∙ length-sets a.o.now 0 (pair_numbers (segments_of a.r a.l.now))
 
 pub slice_bounds-count_different-end : goal.slice_bounds-count_different-end
-slice_bounds-count_different-end c tie.Need-slice-reshare-prefix-count-different slice-reshare-prefix-count-different c = let p = c.before.before in omega (arith, as_long p, p.pairs_of.ensures.0.1)
+slice_bounds-count_different-end c = omega (arith, as_long (goal.at.slice_bounds-count_different-end c).After-pairs_of-n, c.pairs_of-n.ensures.0.1)
 
 pub slice_bounds-count_different-end-2 : goal.slice_bounds-count_different-end-2
-slice_bounds-count_different-end-2 c tie.Need-slice-aggregate-count-different slice-aggregate-count-different c = let p = c.before.before.before in p.pairs_of.ensures.0.0 ∙ sym (ap length (front p))
+slice_bounds-count_different-end-2 c = c.pairs_of-n.ensures.0.0 ∙ sym (ap length (front (goal.at.slice_bounds-count_different-end-2 c).After-pairs_of-n))
 
 pub shape_of-o : goal.shape_of-o
-shape_of-o c tie.Need-same-length same_length c = as_long c.before.before.before.before
+shape_of-o c = as_long (goal.at.shape_of-o c).After-pairs_of-n
 
 pub returns : goal.returns
-returns c tie.Need-returns returns c =
-    let p = c.before.before.before.before in
-    let s = p.before.before.before.before in
-    c.count-different.ensures
-    ∙ ap (λ (x c List ℕ). length (without_repeats eqb x)) (front p)
-    ∙ numbers-are s.args.r s.args.l.now (λ i. (p.before.before.before.shared-slice-known.given i).fits)
+returns c =
+    c.count_different.ensures
+    ∙ ap (λ (x : List ℕ). length (without_repeats eqb x)) (front (goal.at.returns c).After-pairs_of-n)
+    ∙ numbers-are c.args.r c.args.l.now (λ i. (c.shared_slice_known-1.given i).fits)

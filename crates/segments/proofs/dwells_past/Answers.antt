@@ -12,9 +12,8 @@ use Rattle.segments.proofs.dwells_past.Goals as goal
 use Rattle.segments.proofs.dwells_past.Goals.{Then-l-eq2}
 
 pub bounds-l-0 : goal.bounds-l-0
-bounds-l-0 c tie.Need-shared-slice-read-if1 shared-slice-read-if1 c =
-    let s = c.before.before in
-    let g = segment-passes s.args.r s.args.l.now s.requires.0 in
+bounds-l-0 c =
+    let g = segment-passes c.args.r c.args.l.now c.requires.0 in
     omega (arith, g.header, g.within)
 
 -- a dwell stands there
@@ -23,16 +22,14 @@ unfolding type_at
 here c = dwelling c.args.r c.args.l.now c.requires.0 c.if-l-eq2.true
 
 pub get_u32-requires : goal.get_u32-requires
-get_u32-requires c tie.Need-get-u32-requires get-u32-requires c = omega (arith, (here c).long, (here c).within)
+get_u32-requires c = omega (arith, (here (goal.at.get_u32-requires c).Then-l-eq2).long, (here (goal.at.get_u32-requires c).Then-l-eq2).within)
 
 pub returns-then-l-eq2 : goal.returns-then-l-eq2
 unfolding past type_at
-returns-then-l-eq2 c tie.Need-returns unfolding past type_at returns c =
-    let number = c.before in
-    let test = number.before in
-    let a = test.before.before.before.args in
-    rw (eq-eqb (get_or a.l.now 0 0) 2 test.if1.true) (c.pair-past.ensures ∙ ap (past_pair a.dwells) (number.get-u32.ensures ∙ (here test).number_is))
+returns-then-l-eq2 c =
+    let a = c.args in
+    rw (eq-eqb (get_or a.l.now 0 0) 2 c.if-l-eq2.true) (c.pair_past.ensures ∙ ap (past_pair a.dwells) (c.get_u32.ensures ∙ (here (goal.at.returns-then-l-eq2 c).Then-l-eq2).number_is))
 
 pub returns-else-l-eq2 : goal.returns-else-l-eq2
 unfolding past type_at
-returns-else-l-eq2 c tie.Need-returns-2 unfolding past type_at returns-2 c = rw (ne_eqb (get_or c.before.before.before.args.l.now 0 0) 2 c.if1.false)
+returns-else-l-eq2 c = rw (ne_eqb (get_or c.args.l.now 0 0) 2 c.if-l-eq2.false)

@@ -31,11 +31,11 @@ fell-one : (c : Joined-dwells-above) → c.if-dwells-above.fallen ≤ 1
 fell-one c = ⊎_elim (λ w. omega (arith, w.1)) (λ w. omega (arith, w.1)) c.if-dwells-above.branch
 
 pub overflow_add-result : goal.overflow_add-result
-overflow_add-result c tie.Need-overflow-add-t10 add-t10 c = let test = c.before.before.before.before in omega (arith, rose-one test, test.before.before.requires.0)
+overflow_add-result c = omega (arith, rose-one (goal.at.overflow_add-result c).Joined-dwells-number, c.requires.0)
 
 pub overflow_add-result-2 : goal.overflow_add-result-2
-overflow_add-result-2 c tie.Need-overflow-add-t11 add-t11 c = let test = c.before.before.before.before in omega (arith, fell-one test, test.before.before.before.before.requires.1)
+overflow_add-result-2 c = omega (arith, fell-one (goal.at.overflow_add-result-2 c).Joined-dwells-above, c.requires.1)
 
 pub returns : goal.returns
 unfolding past_pair
-returns c tie.Need-returns unfolding past_pair returns c = let test = c.before.before.before.before in rw (rose test.before.before, fell test)
+returns c = rw (rose (goal.at.returns c).Joined-dwells-number, fell (goal.at.returns c).Joined-dwells-above)

@@ -5,7 +5,6 @@ use Prim.Native.Nat.{ℕ, ◌-◌, ◌<◌}
 use native.Mathlib.Omega.{arith}
 use mathlib.Core.Path.{◌≡◌, refl}
 use mathlib.Core.Logic.{⊎_elim}
-use lib.ListN.{length}
 use Rattle.format.specs.Packet.{type_at, size_at}
 use Rattle.segments.specs.InnerWalk.{most_dwells}
 use Rattle.segments.proofs.Walking.{Dwelling, dwelling}
@@ -15,7 +14,7 @@ use Rattle.segments.proofs.pairs_of.Goals as goal
 use Rattle.segments.proofs.pairs_of.Goals.{At-loop-at, In-loop-at, Then-t-eq2}
 
 pub loop-at-init : goal.loop-at-init
-loop-at-init c tie.Need-loop-init invariant-loop decreases-loop loop-holds c r e = let a = c.before.before.args in gather-start r a.l.now a.o.now e
+loop-at-init c r e = let a = c.args in gather-start r a.l.now a.o.now e
 
 -- what is gathered at a turn
 abbrev start : At-loop-at → Start
@@ -32,7 +31,7 @@ here c size z =
     turn s.args.r s.args.l.now c.loop-at.at (gathered (goal.at.In-loop-at c).At-loop-at).left (omega (arith, s.pre.0.short)) c.loop-at-test.true size z
 
 pub bounds-t-0 : goal.bounds-t-0
-bounds-t-0 c tie.Need-shared-slice-read-if1 invariant-loop decreases-loop shared-slice-read-if1 c = let t = here c.before.before _ refl in omega (arith, t.header, t.part)
+bounds-t-0 c = let t = here (goal.at.bounds-t-0 c).In-loop-at _ refl in omega (arith, t.header, t.part)
 
 -- it is a dwell
 dwell : (c : Then-t-eq2) → let a = (start c).args in Dwelling (tail a.r a.l.now c.loop-at.at)
@@ -42,7 +41,7 @@ dwell c =
     dwelling a.r (tail a.r a.l.now c.loop-at.at) (here (goal.at.Then-t-eq2 c).In-loop-at _ refl).rows c.if-t-eq2.true
 
 pub get_u32-requires : goal.get_u32-requires
-get_u32-requires c tie.Need-get-u32-requires invariant-loop decreases-loop get-u32-requires c = let d = dwell c in omega (arith, d.long, d.within)
+get_u32-requires c = let d = dwell (goal.at.get_u32-requires c).Then-t-eq2 in omega (arith, d.long, d.within)
 
 -- so there is room for its pair
 room : (c : Then-t-eq2) → c.loop-at.n < most_dwells (start c).args.l.now
@@ -50,49 +49,42 @@ room c =
     omega (arith, (gathered (goal.at.Then-t-eq2 c).At-loop-at).few, (dwell c).long, (here (goal.at.Then-t-eq2 c).In-loop-at _ refl).within)
 
 pub offset_bounds-o-n : goal.offset_bounds-o-n
-offset_bounds-o-n c tie.Need-overflow-mul-o invariant-loop decreases-loop mul-o c = let i = c.before.before.before.before.before in omega (arith, room c.before, (start i).requires.0.short)
+offset_bounds-o-n c = omega (arith, room (goal.at.offset_bounds-o-n c).Then-t-eq2, (start c).requires.0.short)
 
 pub bounds-o-n : goal.bounds-o-n
-bounds-o-n c tie.Need-slice-write-o invariant-loop decreases-loop slice-write-o c =
-    let i = c.before.before.before.before.before in
-    omega (arith, room c.before, (gathered i).same, (start i).requires.1)
+bounds-o-n c =
+    omega (arith, room (goal.at.bounds-o-n c).Then-t-eq2, (gathered (goal.at.bounds-o-n c).At-loop-at).same, (start c).requires.1)
 
 pub overflow_add-n : goal.overflow_add-n
-overflow_add-n c tie.Need-overflow-add-n invariant-loop decreases-loop add-n c = let i = c.before.before.before.before.before in omega (arith, room c.before, (start i).requires.0.short)
+overflow_add-n c = omega (arith, room (goal.at.overflow_add-n c).Then-t-eq2, (start c).requires.0.short)
 
 pub size_at-at-requires : goal.size_at-at-requires
-size_at-at-requires c tie.Need-size-at-requires invariant-loop decreases-loop size-at-requires c =
-    let t = c.before.before.before in
-    let i = t.before in
-    headed (start i).args.r (start i).args.l.now i.loop.at (gathered i).left t.loop-test.true
+size_at-at-requires c =
+    headed (start c).args.r (start c).args.l.now c.loop-at.at (gathered (goal.at.size_at-at-requires c).At-loop-at).left c.loop-at-test.true
 
 pub overflow_add-at : goal.overflow_add-at
-overflow_add-at c tie.Need-overflow-add-at invariant-loop decreases-loop add_at c =
-    let t = c.before.before.before.before in
-    omega (arith, (here t _ c.size-at.ensures).within, (start t.before).pre.0.short)
+overflow_add-at c =
+    omega (arith, (here (goal.at.overflow_add-at c).In-loop-at _ c.size_at-at.ensures).within, (start c).pre.0.short)
 
 pub loop-at-smaller : goal.loop-at-smaller
-loop-at-smaller c tie.Need-loop-smaller invariant-loop decreases-loop loop-less c =
-    let t = here c.before.before.before.before _ c.size-at.ensures in
+loop-at-smaller c =
+    let t = here (goal.at.loop-at-smaller c).In-loop-at _ c.size_at-at.ensures in
     omega (arith, t.header, t.within)
 
 pub loop-at-preserved : goal.loop-at-preserved
-loop-at-preserved c tie.Need-loop-preserved invariant-loop decreases-loop loop-again c r e =
-    let test = c.before in
-    let t = test.before.before.before in
-    let i = t.before in
-    let a = (start i).args in
+loop-at-preserved c r e =
+    let a = (start c).args in
     let l = a.l.now in
-    let g = i.loop.invariant r e in
+    let g = c.loop-at.invariant r e in
     ⊎_elim
-    (λ w. gather-dwell r l a.o.now g (omega (arith, e.short)) t.loop-test.true _ c.size-at.ensures _ w.0.taken w.1.ensures w.2 w.3)
-    (λ w. gather-other r l a.o.now g (omega (arith, e.short)) t.loop-test.true _ c.size-at.ensures w.0.left w.1 w.2)
-    test.if1.branch
+    (λ w. gather-dwell r l a.o.now g (omega (arith, e.short)) c.loop-at-test.true _ c.size_at-at.ensures _ w.0.taken w.1.ensures w.2 w.3)
+    (λ w. gather-other r l a.o.now g (omega (arith, e.short)) c.loop-at-test.true _ c.size_at-at.ensures w.0.left w.1 w.2)
+    c.if-t-eq2.branch
 
 pub shape_of-o : goal.shape_of-o
-shape_of-o c tie.Need-same-length invariant-loop decreases-loop same_length c = (gathered c.before).same
+shape_of-o c = (gathered (goal.at.shape_of-o c).At-loop-at).same
 
 pub returns : goal.returns
-returns c tie.Need-returns invariant-loop decreases-loop returns c =
-    let s = start c.before in
-    gather-end s.args.r s.args.l.now s.args.o.now (gathered c.before) (omega arith) s.pre.1
+returns c =
+    let s = start c in
+    gather-end s.args.r s.args.l.now s.args.o.now (gathered (goal.at.returns c).At-loop-at) (omega arith) s.pre.1

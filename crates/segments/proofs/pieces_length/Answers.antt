@@ -6,4 +6,4 @@ use Rattle.segments.proofs.pieces_length.Goals as goal
 
 pub returns : goal.returns
 unfolding piece_count
-returns c tie.Need-returns unfolding piece_count returns c = omega arith
+returns c = omega arith

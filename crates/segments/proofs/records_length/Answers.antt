@@ -21,54 +21,48 @@ is s k e h = length-as s.args.r s.args.b.now s.args.segment_type k e h
 
 pub hrr_length-requires : goal.hrr_length-requires
 unfolding body_rows
-hrr_length-requires c tie.Need-hrr-length-requires unfolding body_rows hrr-length-requires c =
-    let test = c.before in
-    let s = test.before.before.before in
-    rw (sym test.is-hrr-read.ensures ∙ c.if1.true) at (rows_as s.args.r s.args.b.now s.args.segment-type 3 test.before.match.keys3 s.requires.rows)
+hrr_length-requires c =
+    rw (sym c.is_hrr_read.ensures ∙ c.if-is_hrr_read.true) at (rows_as c.args.r c.args.b.now c.args.segment_type 3 c.in-3.is c.requires.rows)
 
 pub overflow_sub-b : goal.overflow_sub-b
 unfolding body_rows is_hrr
-overflow_sub-b c tie.Need-overflow-sub-pieces-length unfolding body_rows is_hrr sub-pieces-length c =
-    let s = c.before.before in
-    let b = s.args.b.now in
-    text-length b (rows_as s.args.r b s.args.segment-type 6 c.match.keys5 s.requires.rows)
+overflow_sub-b c =
+    let b = c.args.b.now in
+    text-length b (rows_as c.args.r b c.args.segment_type 6 c.in-6.is c.requires.rows)
 
 pub overflow_add-result-in-6 : goal.overflow_add-result-in-6
 unfolding piece_count
-overflow_add-result-in-6 c tie.Need-overflow-add-result-2 unfolding piece_count add-result-2 c = omega (arith, c.pieces-length.ensures)
+overflow_add-result-in-6 c = omega (arith, c.pieces_length.ensures)
 
 pub returns-in-1 : goal.returns-in-1
-returns-in-1 c tie.Need-returns returns c = is c.before.before 1 c.match.keys1 refl
+returns-in-1 c = is (goal.at.returns-in-1 c).Start 1 c.in-1.is refl
 
 pub returns-in-2 : goal.returns-in-2
-returns-in-2 c tie.Need-returns-2 returns-2 c =
-    let s = c.before.before.before in
-    let e = c.before.match.keys2 in
-    is s 2 e (omega (arith, c.targets-in.ensures.0 ∙ ap (λ (t c ℕ). targets_of_type t s.args.b.now) e))
+returns-in-2 c =
+    let e = c.in-2.is in
+    is (goal.at.returns-in-2 c).Start 2 e (omega (arith, c.targets_in.ensures.0 ∙ ap (λ (t : ℕ). targets_of_type t c.args.b.now) e))
 
 pub returns-then-is_hrr_read : goal.returns-then-is_hrr_read
-returns-then-is_hrr_read c tie.Need-returns-3 returns-3 c =
-    let test = c.before.before in
-    is test.before.before.before 3 test.before.match.keys3 (rw (sym test.is-hrr-read.ensures ∙ c.before.if1.true) c.hrr-length.ensures)
+returns-then-is_hrr_read c =
+    is (goal.at.returns-then-is_hrr_read c).Start 3 c.in-3.is (rw (sym c.is_hrr_read.ensures ∙ c.if-is_hrr_read.true) c.hrr_length.ensures)
 
 pub returns-else-is_hrr_read : goal.returns-else-is_hrr_read
-returns-else-is_hrr_read c tie.Need-returns-4 returns-4 c =
-    let test = c.before.before in
-    is test.before.before.before 3 test.before.match.keys3 (rw (sym test.is-hrr-read.ensures ∙ c.before.if1.false) c.opaque-length.ensures)
+returns-else-is_hrr_read c =
+    is (goal.at.returns-else-is_hrr_read c).Start 3 c.in-3.is (rw (sym c.is_hrr_read.ensures ∙ c.if-is_hrr_read.false) c.opaque_length.ensures)
 
 pub returns-in-5 : goal.returns-in-5
-returns-in-5 c tie.Need-returns-5 returns-5 c = is c.before.before 5 c.match.keys4 refl
+returns-in-5 c = is (goal.at.returns-in-5 c).Start 5 c.in-5.is refl
 
 pub returns-in-6 : goal.returns-in-6
-returns-in-6 c tie.Need-returns-6 returns-6 c = is c.before.before.before 6 c.before.match.keys5 (omega (arith, c.pieces-length.ensures))
+returns-in-6 c = is (goal.at.returns-in-6 c).Start 6 c.in-6.is (omega (arith, c.pieces_length.ensures))
 
 pub returns-in-10 : goal.returns-in-10
-returns-in-10 c tie.Need-returns-7 returns-7 c = is c.before.before 10 c.match.keys6 refl
+returns-in-10 c = is (goal.at.returns-in-10 c).Start 10 c.in-10.is refl
 
 pub returns-in-13 : goal.returns-in-13
-returns-in-13 c tie.Need-returns-8 returns-8 c = is c.before.before 13 c.match.keys7 refl
+returns-in-13 c = is (goal.at.returns-in-13 c).Start 13 c.in-13.is refl
 
 pub returns-in_default : goal.returns-in_default
-returns-in_default c tie.Need-returns-9 returns-9 c =
-    let a = c.before.before.before.args in
-    length-as-opaque a.r a.b.now a.segment-type (bytes-other a.r a.b.now a.segment-type c.before.match.rest) c.opaque-length2.ensures
+returns-in_default c =
+    let a = c.args in
+    length-as-opaque a.r a.b.now a.segment_type (bytes-other a.r a.b.now a.segment_type c.in_default.rest) c.opaque_length-in_default.ensures

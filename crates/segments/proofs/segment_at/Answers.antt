@@ -24,40 +24,36 @@ part : (c : After-size_at-size) → let a = c.args in Handed a.r a.l.now a.l.now
 part c = let a = c.args in handed a.r a.l.now a.l.now 0 _ refl c.size_at-size.ensures (passed (goal.at.After-size_at-size c).After-shared_slice_known-in-Passed-1)
 
 pub bounds-l-0 : goal.bounds-l-0
-bounds-l-0 c tie.Need-shared-slice-read-segment-type shared-slice-read-segment-type c = omega (arith, (known c).header, (known c).within)
+bounds-l-0 c = omega (arith, (known (goal.at.bounds-l-0 c).After-shared_slice_known-in-Passed-1).header, (known (goal.at.bounds-l-0 c).After-shared_slice_known-in-Passed-1).within)
 
 pub size_at-size-requires : goal.size_at-size-requires
-size_at-size-requires c tie.Need-size-at-requires size-at-requires c = omega (arith, (known c).header, (known c).within)
+size_at-size-requires c = omega (arith, (known (goal.at.size_at-size-requires c).After-shared_slice_known-in-Passed-1).header, (known (goal.at.size_at-size-requires c).After-shared_slice_known-in-Passed-1).within)
 
 pub slice_bounds-b-count : goal.slice_bounds-b-count
-slice_bounds-b-count c tie.Need-overflow-sub-b sub-b c = (part c).header
+slice_bounds-b-count c = (part (goal.at.slice_bounds-b-count c).After-size_at-size).header
 
 pub slice_bounds-b-start : goal.slice_bounds-b-start
-slice_bounds-b-start c tie.Need-slice-bounds-b-start part-b-start c = omega (arith, (part c).header)
+slice_bounds-b-start c = omega (arith, (part (goal.at.slice_bounds-b-start c).After-size_at-size).header)
 
 pub slice_bounds-b-end : goal.slice_bounds-b-end
-slice_bounds-b-end c tie.Need-slice-bounds-b-end part-b-end c = omega (arith, (part c).within)
+slice_bounds-b-end c = omega (arith, (part (goal.at.slice_bounds-b-end c).After-size_at-size).within)
 
 pub targets_in-requires : goal.targets_in-requires
-targets_in-requires c tie.Need-targets-in-requires targets-in-requires c =
-    let s = c.before.before.before.before.before.before.before in
-    handed-checked s.args.r s.args.l.now s.args.l.now 0 _ s.requires (part c.before)
+targets_in-requires c =
+    handed-checked c.args.r c.args.l.now c.args.l.now 0 _ c.requires (part (goal.at.targets_in-requires c).After-size_at-size)
 
 pub records_length-requires : goal.records_length-requires
-records_length-requires c tie.Need-records-length-requires records-length-requires c =
-    let s = c.before.before.before.before.before.before.before.before in
-    handed-checked s.args.r s.args.l.now s.args.l.now 0 _ s.requires (part c.before.before)
+records_length-requires c =
+    handed-checked c.args.r c.args.l.now c.args.l.now 0 _ c.requires (part (goal.at.records_length-requires c).After-size_at-size)
 
 pub returns-in-Failed : goal.returns-in-Failed
-returns-in-Failed c tie.Need-returns returns c =
-    let a = c.before.before.before.before.before.args in
-    found-bad a.r a.l.now _ _ (sym c.before.before.before.segment-check.ensures ∙ c.before.number.given.1)
+returns-in-Failed c =
+    let a = c.args in
+    found-bad a.r a.l.now _ _ (sym c.segment_check.ensures ∙ c.in-Failed.is)
 
 pub returns-in-Passed : goal.returns-in-Passed
 unfolding type_at
-returns-in-Passed c tie.Need-returns-2 unfolding type_at returns-2 c =
-    let targets = c.before in
-    let size = targets.before.before in
-    let a = size.before.before.before.before.before.before.args in
-    found-good a.r a.l.now _ (passed size.before) size.size-at.ensures
-    (body-part a.l.now _ size.size-at.ensures (part size).header) targets.targets-in.ensures.0 c.records-length.ensures
+returns-in-Passed c =
+    let a = c.args in
+    found-good a.r a.l.now _ (passed (goal.at.returns-in-Passed c).After-shared_slice_known-in-Passed-1) c.size_at-size.ensures
+    (body-part a.l.now _ c.size_at-size.ensures (part (goal.at.returns-in-Passed c).After-size_at-size).header) c.targets_in.ensures.0 c.records_length.ensures

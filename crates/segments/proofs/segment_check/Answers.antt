@@ -48,38 +48,33 @@ past-15 c =
 
 pub returns-then-l-lt5 : goal.returns-then-l-lt5
 unfolding first_row segment_rows
-returns-then-l-lt5 c tie.Need-returns unfolding first_row segment_rows returns c = rw (lt-ltb (length c.before.before.args.l.now) 5 c.if1.true)
+returns-then-l-lt5 c = rw (lt-ltb (length c.args.l.now) 5 c.if-l-lt5.true)
 
 pub returns-then-not-is_known_type : goal.returns-then-not-is_known_type
 unfolding first_row segment_rows type_at
-returns-then-not-is_known_type c tie.Need-returns-2 unfolding first_row segment_rows type_at returns-2 c =
-    let known = c.before in
-    sym (past-6 known.before.before ∙ rw (sym known.is-known-type.ensures ∙ not-true _ c.if2.true))
+returns-then-not-is_known_type c =
+    sym (past-6 (goal.at.returns-then-not-is_known_type c).Else-l-lt5 ∙ rw (sym c.is_known_type.ensures ∙ not-true _ c.if-not-is_known_type.true-raw))
 
 pub returns-then-size-lt5 : goal.returns-then-size-lt5
 unfolding first_row segment_rows
-returns-then-size-lt5 c tie.Need-returns-3 unfolding first_row segment_rows returns-3 c =
-    let size = c.before in
-    let z = size.size-at.result in
+returns-then-size-lt5 c =
+    let z = c.size_at-size.result in
     sym
-    (past-7 size.before
-    ∙ rw (sym size.size-at.ensures)
+    (past-7 (goal.at.returns-then-size-lt5 c).Else-not-is_known_type
+    ∙ rw (sym c.size_at-size.ensures)
     (⊎_elim
     (λ w. rw (lt-ltb z 5 w.taken))
     (λ w. rw (le-ltb z 5 w.0.left, w.1.taken))
-    c.if3.branch))
+    c.then-size-lt5.branch))
 
 pub returns-then-segment_type-eq3 : goal.returns-then-segment_type-eq3
 unfolding first_row segment_rows type_at
-returns-then-segment_type-eq3 c tie.Need-returns-4 unfolding first_row segment_rows type_at returns-4 c =
-    let older = c.before.before in
-    sym (past-8 older.before ∙ rw (sym older.is-older.ensures ∙ c.before.if5.true, c.if6.true))
+returns-then-segment_type-eq3 c =
+    sym (past-8 (goal.at.returns-then-segment_type-eq3 c).Else-l-size ∙ rw (sym c.is_older.ensures ∙ c.if-is_older.true, c.if-segment_type-eq3.true-raw))
 
 pub returns : goal.returns
 unfolding segment_rows type_at
-returns c tie.Need-returns-5 unfolding segment_rows type_at returns-5 c =
-    let size = c.before.before.before.before.before.before in
-    let s = size.before.before.before.before.before.before in
-    let rows c List ℕ → Check = λ b. first_row (body_rows s.args.r (type_at s.args.l.now) b) in
-    let body = body-part s.args.l.now size.size-at.result size.size-at.ensures (omega arith) in
-    sym (past-15 c.before.before ∙ ap rows (sym body) ∙ sym c.body-check.ensures)
+returns c =
+    let rows : List ℕ → Check = λ b. first_row (body_rows c.args.r (type_at c.args.l.now) b) in
+    let body = body-part c.args.l.now c.size_at-size.result c.size_at-size.ensures (omega arith) in
+    sym (past-15 (goal.at.returns c).Joined-else-is_older ∙ ap rows (sym body) ∙ sym c.body_check.ensures)

@@ -5,4 +5,4 @@ use Rattle.segments.proofs.size_at.Goals as goal
 
 pub returns : goal.returns
 unfolding size_at
-returns c tie.Need-returns unfolding size_at returns c = c.get-u32.ensures
+returns c = c.get_u32.ensures

@@ -9,14 +9,13 @@ use Rattle.segments.proofs.targets_in.Goals as goal
 
 pub target_count-requires : goal.target_count-requires
 unfolding body_rows
-target_count-requires c tie.Need-target-count-requires unfolding body_rows target-count-requires c =
-    let s = c.before.before in
-    let a = s.args in
-    let d = is-dwell a.r a.b.now (rows_as a.r a.b.now a.segment-type 2 c.if1.true s.requires.rows) in
+target_count-requires c =
+    let a = c.args in
+    let d = is-dwell a.r a.b.now (rows_as a.r a.b.now a.segment_type 2 c.if-segment_type-eq2.true c.requires.rows) in
     (d.required, d.long)
 
 pub returns-then-segment_type-eq2 : goal.returns-then-segment_type-eq2
-returns-then-segment_type-eq2 c tie.Need-returns returns c = (rw (eq-eqb c.before.before.before.args.segment-type 2 c.before.if1.true) c.target-count.ensures, omega arith)
+returns-then-segment_type-eq2 c = (rw (eq-eqb c.args.segment_type 2 c.if-segment_type-eq2.true) c.target_count.ensures, omega arith)
 
 pub returns-else-segment_type-eq2 : goal.returns-else-segment_type-eq2
-returns-else-segment_type-eq2 c tie.Need-returns-2 returns-2 c = (rw (ne_eqb c.before.before.args.segment-type 2 c.if1.false), omega arith)
+returns-else-segment_type-eq2 c = (rw (ne_eqb c.args.segment_type 2 c.if-segment_type-eq2.false), omega arith)

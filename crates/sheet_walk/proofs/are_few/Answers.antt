@@ -13,7 +13,7 @@ use Rattle.sheet_walk.proofs.are_few.Goals as goal
 use Rattle.sheet_walk.proofs.are_few.Goals.{After-shared_slice_known-1}
 
 pub loop-i-init : goal.loop-i-init
-loop-i-init c tie.Need-loop-init invariant-loop decreases-loop loop-holds c = (c.requires, omega arith, omega arith, λ j h. absurd (omega arith))
+loop-i-init c = (c.requires, omega arith, omega arith, λ j h. absurd (omega arith))
 
 -- the record in a turn lies within x
 within : (c : After-shared_slice_known-1) → c.loop-i.at + record_length 12 ≤ length c.args.x.now
@@ -22,23 +22,23 @@ within c =
     omega (arith, l.invariant.0, l.invariant.2, c.loop-i-test.true)
 
 pub bounds-x-at : goal.bounds-x-at
-bounds-x-at c tie.Need-shared-slice-read-if1 invariant-loop decreases-loop read-kind c = omega (arith, within c)
+bounds-x-at c = omega (arith, within (goal.at.bounds-x-at c).After-shared_slice_known-1)
 
 pub returns-then-x-at-ne-KIND : goal.returns-then-x-at-ne-KIND
-returns-then-x-at-ne-KIND c tie.Need-returns invariant-loop decreases-loop returns c =
-    let l = c.before.before.before.loop in
-    let x = c.before.before.before.before.args.x.now in
-    (λ e. absurd (true≢false (sym e)), λ b. absurd (c.if1.true (eqb-true _ _ (ap (is_begun_at 12 x) l.invariant.2 ∙ b.each l.i (omega (arith, c.before.before.loop-test.true))))))
+returns-then-x-at-ne-KIND c =
+    let l = c.loop-i in
+    let x = c.args.x.now in
+    (λ e. absurd (true≢false (sym e)), λ b. absurd (c.if-x-at-ne-KIND.true (eqb-true _ _ (ap (is_begun_at 12 x) l.invariant.2 ∙ b.each l.i (omega (arith, c.loop-i-test.true))))))
 
 pub overflow_add-at : goal.overflow_add-at
-overflow_add-at c tie.Need-overflow-add-at invariant-loop decreases-loop add_at c = omega (arith, within c.before, c.before.before.before.before.well-formed)
+overflow_add-at c = omega (arith, within (goal.at.overflow_add-at c).After-shared_slice_known-1, c.well-formed)
 
 pub loop-i-preserved : goal.loop-i-preserved
-loop-i-preserved c tie.Need-loop-preserved invariant-loop decreases-loop loop-again c =
-    let l = c.before.before.before.loop in
-    (l.invariant.0, omega (arith, c.before.before.loop-test.true), omega (arith, l.invariant.2), one_more 12 c.before.before.before.before.args.x.now l.i l.at l.invariant.2 l.invariant.3 (eq-eqb _ _ c.if1.false))
+loop-i-preserved c =
+    let l = c.loop-i in
+    (l.invariant.0, omega (arith, c.loop-i-test.true), omega (arith, l.invariant.2), one_more 12 c.args.x.now l.i l.at l.invariant.2 l.invariant.3 (eq-eqb _ _ c.if-x-at-ne-KIND.false))
 
 pub returns : goal.returns
-returns c tie.Need-returns-2 invariant-loop decreases-loop returns-2 c =
-    let l = c.before.loop in
-    (λ _. record { long = l.invariant.0; each = λ j h. l.invariant.3 j (omega (arith, l.invariant.1, c.loop-test.false)) }, λ _. refl)
+returns c =
+    let l = c.loop-i in
+    (λ _. record { long = l.invariant.0; each = λ j h. l.invariant.3 j (omega (arith, l.invariant.1, c.loop-i-test.false)) }, λ _. refl)

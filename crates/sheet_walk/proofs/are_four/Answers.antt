@@ -33,11 +33,11 @@ three c =
     (⊎_elim (λ w. inl (w.0.taken, w.2)) (λ w. inr (w.0.left, w.1)) c.if-x-eq-KIND-2.branch)
 
 pub returns-then-x-eq-KIND-3 : goal.returns-then-x-eq-KIND-3
-returns-then-x-eq-KIND-3 c tie.Need-returns returns c =
-    let x = c.before.before.before.before.before.args.x.now in
-    one_told 12 x 3 (3 * record_length 12) refl (omega (arith, c.before.before.before.before.before.requires)) (three c.before.before) (inl (c.before.if3.true, refl))
+returns-then-x-eq-KIND-3 c =
+    let x = c.args.x.now in
+    one_told 12 x 3 (3 * record_length 12) refl (omega (arith, c.requires)) (three (goal.at.returns-then-x-eq-KIND-3 c).Joined-x-eq-KIND-2) (inl (c.if-x-eq-KIND-3.true, refl))
 
 pub returns-else-x-eq-KIND-3 : goal.returns-else-x-eq-KIND-3
-returns-else-x-eq-KIND-3 c tie.Need-returns-2 returns-2 c =
-    let x = c.before.before.before.before.args.x.now in
-    one_told 12 x 3 (3 * record_length 12) refl (omega (arith, c.before.before.before.before.requires)) (three c.before) (inr (c.if3.false, refl))
+returns-else-x-eq-KIND-3 c =
+    let x = c.args.x.now in
+    one_told 12 x 3 (3 * record_length 12) refl (omega (arith, c.requires)) (three (goal.at.returns-else-x-eq-KIND-3 c).Joined-x-eq-KIND-2) (inr (c.if-x-eq-KIND-3.false, refl))

@@ -14,7 +14,7 @@ use Rattle.sheet_walk.proofs.Runs.{none, joined, parted}
 use Rattle.sheet_walk.proofs.are_fours.Goals as goal
 
 pub loop-i-init : goal.loop-i-init
-loop-i-init c tie.Need-loop-init invariant-loop decreases-loop loop-holds c = (omega arith, refl, none 12 c.before.args.x.now)
+loop-i-init c = (omega arith, refl, none 12 c.args.x.now)
 
 -- four more after those passed, and the four of a turn among all
 one-turn : (x : List ℕ) (i at : ℕ) → at ≡ i * 4 * record_length 12 → BeginsWith 12 (i * 4) x → BeginsWith 12 4 (drop at x) → BeginsWith 12 ((i + 1) * 4) x
@@ -28,32 +28,29 @@ of-turn x n i at l e w =
     rw e (parted 12 4 ((n - i - 1) * 4) (drop (i * 4 * record_length 12) x) (parted 12 (i * 4) (4 + (n - i - 1) * 4) x (rw all at w)).1).0
 
 pub are_four-requires : goal.are_four-requires
-are_four-requires c tie.Need-are-four-requires invariant-loop decreases-loop are-four-requires c =
-    let s = c.before.before.before.before in
-    let l = c.before.before.loop in
-    rw (tail-is l.at s.args.x.now, length-drop) (omega (arith, l.invariant.1, c.before.loop-test.true, s.requires))
+are_four-requires c =
+    let l = c.loop-i in
+    rw (tail-is l.at c.args.x.now, length-drop) (omega (arith, l.invariant.1, c.loop-i-test.true, c.requires))
 
 pub returns-then-not-are_four : goal.returns-then-not-are_four
-returns-then-not-are_four c tie.Need-returns invariant-loop decreases-loop returns c =
-    let s = c.before.before.before.before.before.before in
-    let l = c.before.before.before.before.loop in
-    let x = s.args.x.now in (
+returns-then-not-are_four c =
+    let l = c.loop-i in
+    let x = c.args.x.now in (
       λ e. absurd (true≢false (sym e)),
-      λ b. absurd (true≢false (sym (c.before.are-four.ensures.1 (rw (tail-is l.at x) (of-turn x s.args.n l.i l.at c.before.before.before.loop-test.true l.invariant.1 b))) ∙ not-true _ c.if1.true)),
+      λ b. absurd (true≢false (sym (c.are_four.ensures.1 (rw (tail-is l.at x) (of-turn x c.args.n l.i l.at c.loop-i-test.true l.invariant.1 b))) ∙ not-true _ c.if-not-are_four.true-raw)),
     )
 
 pub loop-i-preserved : goal.loop-i-preserved
-loop-i-preserved c tie.Need-loop-preserved invariant-loop decreases-loop loop-again c =
-    let s = c.before.before.before.before.before.before in
-    let l = c.before.before.before.before.loop in
-    let x = s.args.x.now in (
-      omega (arith, c.before.before.before.loop-test.true),
+loop-i-preserved c =
+    let l = c.loop-i in
+    let x = c.args.x.now in (
+      omega (arith, c.loop-i-test.true),
       omega (arith, l.invariant.1),
-      one-turn x l.i l.at l.invariant.1 l.invariant.2 (rw (tail-is l.at x) at (c.before.are-four.ensures.0 (not-false _ c.if1.false))),
+      one-turn x l.i l.at l.invariant.1 l.invariant.2 (rw (tail-is l.at x) at (c.are_four.ensures.0 (not-false _ c.if-not-are_four.false-raw))),
     )
 
 pub returns : goal.returns
-returns c tie.Need-returns-2 invariant-loop decreases-loop returns-2 c =
-    let l = c.before.loop in
-    let all c l.i ≡ c.before.before.before.args.n = omega (arith, l.invariant.0, c.loop-test.false) in
+returns c =
+    let l = c.loop-i in
+    let all : l.i ≡ c.args.n = omega (arith, l.invariant.0, c.loop-i-test.false) in
     (λ _. rw all at l.invariant.2, λ _. refl)

@@ -26,10 +26,10 @@ more x i at true e f t = one_told 6 x i at e f t (inl (refl, refl))
 more x i at false e f t = one_told 6 x i at e f t (inr (refl, refl))
 
 pub returns-then-x-count : goal.returns-then-x-count
-returns-then-x-count c tie.Need-returns invariant-loop decreases-loop returns c = (λ e. absurd (true≢false (sym e)), λ b. absurd (omega (arith, b.long, c.if1.true)))
+returns-then-x-count c = (λ e. absurd (true≢false (sym e)), λ b. absurd (omega (arith, b.long, c.if-x-count.true)))
 
 pub loop-i-init : goal.loop-i-init
-loop-i-init c tie.Need-loop-init invariant-loop decreases-loop loop-holds c = (omega (arith, c.if1.false), omega arith, refl, (true, refl, (λ _. none 6 _, λ _. refl)))
+loop-i-init c = (omega (arith, c.if-x-count.false), omega arith, refl, (true, refl, (λ _. none 6 _, λ _. refl)))
 
 -- the record in a turn lies within x
 within : (c : In-loop-i) → c.loop-i.at + record_length 6 ≤ length c.args.x.now
@@ -38,27 +38,26 @@ within c =
     omega (arith, l.invariant.0, l.invariant.2, c.loop-i-test.true)
 
 pub not_full-seen-requires : goal.not_full-seen-requires
-not_full-seen-requires c tie.Need-not-full-requires invariant-loop decreases-loop not-full-requires c = omega (arith, within c)
+not_full-seen-requires c = omega (arith, within (goal.at.not_full-seen-requires c).In-loop-i)
 
 pub overflow_add-at : goal.overflow_add-at
-overflow_add-at c tie.Need-overflow-add-at invariant-loop decreases-loop add_at c = omega (arith, within c.before, c.before.before.before.before.before.well-formed)
+overflow_add-at c = omega (arith, within (goal.at.overflow_add-at c).In-loop-i, c.well-formed)
 
 pub loop-i-preserved : goal.loop-i-preserved
-loop-i-preserved c tie.Need-loop-preserved invariant-loop decreases-loop loop-again c =
-    let turn = c.before in
-    let l = turn.before.loop in
-    let x = turn.before.before.before.before.args.x.now in
+loop-i-preserved c =
+    let l = c.loop-i in
+    let x = c.args.x.now in
     let so_far = l.invariant.3 in (
       l.invariant.0,
-      omega (arith, turn.loop-test.true),
+      omega (arith, c.loop-i-test.true),
       omega (arith, l.invariant.2),
-      (so_far.0 && is_full_at x l.at, ap₂ bit_or so_far.1 c.not_full.ensures ∙ or_is so_far.0 (is_full_at x l.at), more x l.i l.at so_far.0 l.invariant.2 (within turn) so_far.2),
+      (so_far.0 && is_full_at x l.at, ap₂ bit_or so_far.1 c.not_full-seen.ensures ∙ or_is so_far.0 (is_full_at x l.at), more x l.i l.at so_far.0 l.invariant.2 (within (goal.at.loop-i-preserved c).In-loop-i) so_far.2),
     )
 
 pub returns : goal.returns
-returns c tie.Need-returns-2 invariant-loop decreases-loop returns-2 c =
-    let l = c.before.loop in
-    let x = c.before.before.before.before.args.x.now in
-    let all c l.i ≡ c.before.before.before.before.args.count = omega (arith, l.invariant.1, c.loop-test.false) in
+returns c =
+    let l = c.loop-i in
+    let x = c.args.x.now in
+    let all : l.i ≡ c.args.count = omega (arith, l.invariant.1, c.loop-i-test.false) in
     let told = l.invariant.3 in
-    subst (λ (r c Bool). Tells r 6 c.before.before.before.before.args.count x) (sym (ap (λ (k c ℕ). eqb k 0) told.1 ∙ is_zero told.0)) (rw all at told.2)
+    subst (λ (r : Bool). Tells r 6 c.args.count x) (sym (ap (λ (k : ℕ). eqb k 0) told.1 ∙ is_zero told.0)) (rw all at told.2)

@@ -21,24 +21,22 @@ rest : (x : List ℕ) {at to : ℕ} → at ≡ to → take (length x - at) (drop
 rest x {at} e = tail-is at x ∙ ap (λ (k : ℕ). drop k x) e
 
 pub returns-then-x-count : goal.returns-then-x-count
-returns-then-x-count c tie.Need-returns returns c = (λ e. absurd (true≢false (sym e)), λ b. absurd (omega (arith, b.long, c.if1.true)))
+returns-then-x-count c = (λ e. absurd (true≢false (sym e)), λ b. absurd (omega (arith, b.long, c.if-x-count.true)))
 
 pub returns-then-not-are_fours : goal.returns-then-not-are_fours
-returns-then-not-are_fours c tie.Need-returns-2 returns-2 c =
-    let s = c.before.before.before.before in
-    let n = s.args.count in (
+returns-then-not-are_fours c =
+    let n = c.args.count in (
       λ e. absurd (true≢false (sym e)),
-      λ b. absurd (true≢false (sym (c.before.are-fours.ensures.1 (parted 12 (n / 4 * 4) (n % 4) s.args.x.now (rw (sym (all_of n)) at b)).0) ∙ not-true _ c.if2.true)),
+      λ b. absurd (true≢false (sym (c.are_fours.ensures.1 (parted 12 (n / 4 * 4) (n % 4) c.args.x.now (rw (sym (all_of n)) at b)).0) ∙ not-true _ c.if-not-are_fours.true-raw)),
     )
 
 pub returns : goal.returns
-returns c tie.Need-returns-3 returns-3 c =
-    let s = c.before.before.before.before.before.before in
-    let n = s.args.count in
-    let x = s.args.x.now in
-    let place c n / 4 * (4 * record_length 12) ≡ n / 4 * 4 * record_length 12 = omega arith in
-    let few = c.are-few.ensures in
+returns c =
+    let n = c.args.count in
+    let x = c.args.x.now in
+    let place : n / 4 * (4 * record_length 12) ≡ n / 4 * 4 * record_length 12 = omega arith in
+    let few = c.are_few.ensures in
     let tail = rest x place in (
-      λ e. rw (all_of n) at (joined 12 (n / 4 * 4) (n % 4) x (c.before.before.before.are-fours.ensures.0 (not-false _ c.before.before.if2.false)) (rw tail at (few.0 e))),
+      λ e. rw (all_of n) at (joined 12 (n / 4 * 4) (n % 4) x (c.are_fours.ensures.0 (not-false _ c.if-not-are_fours.false-raw)) (rw tail at (few.0 e))),
       λ b. few.1 (rw tail (parted 12 (n / 4 * 4) (n % 4) x (rw (sym (all_of n)) at b)).1),
     )

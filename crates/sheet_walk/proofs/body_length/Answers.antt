@@ -9,16 +9,16 @@ use Rattle.sheet_walk.proofs.body_length.Goals as goal
 
 pub returns-then-kind-eq-KIND : goal.returns-then-kind-eq-KIND
 unfolding body_length
-returns-then-kind-eq-KIND c tie.Need-returns unfolding body_length returns c = (sym (ap body_length c.if1.true), omega arith)
+returns-then-kind-eq-KIND c = (sym (ap body_length c.if-kind-eq-KIND.true), omega arith)
 
 pub returns-then-kind-eq-KIND-2 : goal.returns-then-kind-eq-KIND-2
 unfolding body_length
-returns-then-kind-eq-KIND-2 c tie.Need-returns-2 unfolding body_length returns-2 c = (sym (ap body_length c.if2.true), omega arith)
+returns-then-kind-eq-KIND-2 c = (sym (ap body_length c.if-kind-eq-KIND-2.true), omega arith)
 
 pub returns-then-kind-lt-KINDS : goal.returns-then-kind-lt-KINDS
 unfolding body_length
-returns-then-kind-lt-KINDS c tie.Need-returns-3 unfolding body_length returns-3 c = (c.wide.ensures.0, omega (arith, c.wide.ensures, body-bound c.before.before.before.before.args.kind))
+returns-then-kind-lt-KINDS c = (c.wide.ensures.0, omega (arith, c.wide.ensures, body-bound c.args.kind))
 
 pub returns-else-kind-lt-KINDS : goal.returns-else-kind-lt-KINDS
 unfolding body_length
-returns-else-kind-lt-KINDS c tie.Need-returns-4 unfolding body_length returns-4 c = (sym (get_or-eq_default body_lengths 0 {n = c.before.before.before.args.kind} (omega arith)), omega arith)
+returns-else-kind-lt-KINDS c = (sym (get_or-eq_default body_lengths 0 {n = c.args.kind} (omega arith)), omega arith)

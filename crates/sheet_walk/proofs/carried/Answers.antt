@@ -8,10 +8,10 @@ use Rattle.sheet_walk.proofs.carried.Goals as goal
 
 pub bounds-b-0 : goal.bounds-b-0
 unfolding body_length
-bounds-b-0 c tie.Need-shared-slice-read-wide unfolding body_length shared-slice-read-wide c = omega (arith, c.before.before.before.requires ∙ ap body_length c.before.if1.true)
+bounds-b-0 c = omega (arith, c.requires ∙ ap body_length c.if-kind-eq-KIND.true)
 
 pub returns-then-kind-eq-KIND : goal.returns-then-kind-eq-KIND
-returns-then-kind-eq-KIND c tie.Need-returns returns c = rw c.before.before.if1.true c.wide.ensures.0
+returns-then-kind-eq-KIND c = rw c.if-kind-eq-KIND.true c.wide.ensures.0
 
 pub returns-else-kind-eq-KIND : goal.returns-else-kind-eq-KIND
-returns-else-kind-eq-KIND c tie.Need-returns-2 returns-2 c = rw (ne_eqb _ 6 c.if1.false)
+returns-else-kind-eq-KIND c = rw (ne_eqb _ 6 c.if-kind-eq-KIND.false)

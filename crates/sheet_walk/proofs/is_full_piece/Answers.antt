@@ -19,9 +19,9 @@ by_number a b h = go (eqb a 6) (eqb b 32) refl refl
     go false t p q = ne_eqb (a + b * 256) 8198 (λ e. eqb-false a 6 p (omega (arith, e, h)))
 
 pub returns : goal.returns
-returns c tie.Need-returns returns c =
-    let first = c.before.before.wide.ensures in
-    let second = c.wide2.ensures in
-    let s = c.before.before.before.before.before.args in
-    ap₂ (λ (a b c ℕ). eqb (a + b * 256) 8198) first.0 second.0
+returns c =
+    let first = c.wide.ensures in
+    let second = c.wide-2.ensures in
+    let s = c.args in
+    ap₂ (λ (a b : ℕ). eqb (a + b * 256) 8198) first.0 second.0
     ∙ by_number (get_or s.x.now s.at 0) (get_or s.x.now (s.at + 1) 0) (omega (arith, first.0, first.1))

@@ -11,20 +11,20 @@ use Rattle.sheet_walk.proofs.is_rest.Goals as goal
 use Rattle.sheet_walk.proofs.is_rest.Goals.{In-Whole}
 
 pub loop-kind-init : goal.loop-kind-init
-loop-kind-init c tie.Need-loop-init invariant-loop decreases-loop loop-holds c = refl
+loop-kind-init c = refl
 
 pub returns-in-End : goal.returns-in-End
 unfolding no_header
-returns-in-End c tie.Need-returns invariant-loop decreases-loop unfolding no_header returns c =
-    let l = c.before.before.before.loop in
-    let x = c.before.before.before.before.before.args.x.now in
-    sym (l.invariant ∙ ap is_rest (at_place x l.at c.before.before.record-at.ensures c.enum_told.given.1))
+returns-in-End c =
+    let l = c.loop-kind in
+    let x = c.args.x.now in
+    sym (l.invariant ∙ ap is_rest (at_place x l.at c.record_at.ensures c.in-End.is))
 
 pub returns-in-Cut : goal.returns-in-Cut
-returns-in-Cut c tie.Need-returns-2 invariant-loop decreases-loop returns-2 c =
-    let l = c.before.before.before.loop in
-    let x = c.before.before.before.before.before.args.x.now in
-    sym (l.invariant ∙ ap is_rest (at_place x l.at c.before.before.record-at.ensures c.enum-told2.given.1))
+returns-in-Cut c =
+    let l = c.loop-kind in
+    let x = c.args.x.now in
+    sym (l.invariant ∙ ap is_rest (at_place x l.at c.record_at.ensures c.in-Cut.is))
 
 -- the record in a turn
 here : (c : In-Whole)
@@ -33,14 +33,14 @@ here : (c : In-Whole)
 here c = at_place _ _ c.record_at.ensures c.in-Whole.is
 
 pub returns-then-kind-eq-KIND : goal.returns-then-kind-eq-KIND
-returns-then-kind-eq-KIND c tie.Need-returns-3 invariant-loop decreases-loop returns-3 c =
-    let l = c.before.before.before.before.before.loop in
-    sym (l.invariant ∙ header-again _ _ _ _ (here c.before) c.if1.true)
+returns-then-kind-eq-KIND c =
+    let l = c.loop-kind in
+    sym (l.invariant ∙ header-again _ _ _ _ (here (goal.at.returns-then-kind-eq-KIND c).In-Whole) c.if-kind-eq-KIND.true)
 
 pub loop-kind-smaller : goal.loop-kind-smaller
-loop-kind-smaller c tie.Need-loop-smaller invariant-loop decreases-loop loop-less c = omega (arith, (here c.before).within, (here c.before).fits)
+loop-kind-smaller c = omega (arith, (here (goal.at.loop-kind-smaller c).In-Whole).within, (here (goal.at.loop-kind-smaller c).In-Whole).fits)
 
 pub loop-kind-preserved : goal.loop-kind-preserved
-loop-kind-preserved c tie.Need-loop-preserved invariant-loop decreases-loop loop-again c =
-    let l = c.before.before.before.before.before.loop in
-    l.invariant ∙ rest_more _ _ _ _ (here c.before) c.if1.false
+loop-kind-preserved c =
+    let l = c.loop-kind in
+    l.invariant ∙ rest_more _ _ _ _ (here (goal.at.loop-kind-preserved c).In-Whole) c.if-kind-eq-KIND.false

@@ -15,32 +15,30 @@ use Rattle.sheet_walk.proofs.scatterers_behind.Goals as goal
 
 pub mask_of-requires : goal.mask_of-requires
 unfolding body_length
-mask_of-requires c tie.Need-mask-of-requires unfolding body_length mask-of-requires c = omega arith
+mask_of-requires c = omega arith
 
 pub slice_bounds-scatterers_of-count : goal.slice_bounds-scatterers_of-count
 unfolding body_length
-slice_bounds-scatterers_of-count c tie.Need-overflow-sub-scatterers-of unfolding body_length sub-scatterers-of c = omega (arith, c.before.before.requires)
+slice_bounds-scatterers_of-count c = omega (arith, c.requires)
 
 pub slice_bounds-scatterers_of-start : goal.slice_bounds-scatterers_of-start
 unfolding body_length
-slice_bounds-scatterers_of-start c tie.Need-slice-bounds-scatterers-of-start unfolding body_length part-scatterers-of-start c = omega (arith, c.before.before.requires)
+slice_bounds-scatterers_of-start c = omega (arith, c.requires)
 
 pub scatterers_of-s-requires : goal.scatterers_of-s-requires
 unfolding body_length total
-scatterers_of-s-requires c tie.Need-scatterers-of-requires unfolding body_length total scatterers-of-requires c = rw (tail-is 5 c.before.before.before.args.b.now, length-drop) (omega (arith, c.before.before.before.requires))
+scatterers_of-s-requires c = rw (tail-is 5 c.args.b.now, length-drop) (omega (arith, c.requires))
 
 pub returns : goal.returns
-returns c tie.Need-returns returns c =
-    let all = c.before.before.before.before in
-    let masked = all.before.before in
-    let b = masked.before.before.args.b.now in
+returns c =
+    let b = c.args.b.now in
     let mask = hrr_mask b in
-    let m = c.before.before.before.spelt.ensures in
-    let p = c.before.before.spelt2.ensures in
-    let r = c.before.spelt3.ensures in
-    let d = c.spelt4.ensures in
-    let is c all.scatterers-of.result ≡ scatterers_of (hrr_mask b) (drop 5 b) = all.scatterers-of.ensures.0 ∙ rw (masked.mask-of.ensures, tail-is 5 b) in (
+    let m = c.spelt.ensures in
+    let p = c.spelt-2.ensures in
+    let r = c.spelt-3.ensures in
+    let d = c.spelt-4.ensures in
+    let is : c.scatterers_of-s.result ≡ scatterers_of (hrr_mask b) (drop 5 b) = c.scatterers_of-s.ensures.0 ∙ rw (c.mask_of.ensures, tail-is 5 b) in (
       rw (m, p, r, d) (ap spelt_of is),
-      all.scatterers-of.ensures.1.4,
-      (omega arith, omega arith, omega (arith, r, ap (λ (k c Scatterers). k.range) is, taken-most mask (d32 3) index_width), omega (arith, d, ap (λ (k c Scatterers). k.doppler) is, taken-most mask (d32 4) index_width)),
+      c.scatterers_of-s.ensures.1.4,
+      (omega arith, omega arith, omega (arith, r, ap (λ (k : Scatterers). k.range) is, taken-most mask (d32 3) index_width), omega (arith, d, ap (λ (k : Scatterers). k.doppler) is, taken-most mask (d32 4) index_width)),
     )

@@ -11,10 +11,10 @@ product : (s : Start) → s.args.l.left * s.args.l.each ≤ 4294967295 * 36
 product s = mul-le-mul s.requires.1 s.requires.2
 
 pub overflow_mul-result : goal.overflow_mul-result
-overflow_mul-result c tie.Need-overflow-mul-result mul-result c = omega (arith, product c.before.before)
+overflow_mul-result c = omega (arith, product (goal.at.overflow_mul-result c).Start)
 
 pub overflow_add-result-2 : goal.overflow_add-result-2
-overflow_add-result-2 c tie.Need-overflow-add-result-2 add-result-2 c = omega (arith, product c.before.before)
+overflow_add-result-2 c = omega (arith, product (goal.at.overflow_add-result-2 c).Start)
 
 pub returns : goal.returns
-returns c tie.Need-returns returns c = omega (arith, product c.before.before)
+returns c = omega (arith, product (goal.at.returns c).Start)

@@ -5,10 +5,10 @@ use native.Mathlib.Omega.{arith}
 use Rattle.sheet_walk.proofs.share.Goals as goal
 
 pub returns-then-left-lt-FULL : goal.returns-then-left-lt-FULL
-returns-then-left-lt-FULL c tie.Need-returns returns c = rw c.before.if1.true (omega arith)
+returns-then-left-lt-FULL c = rw c.if-follower-eq-KIND.true (omega arith)
 
 pub returns-else-left-lt-FULL : goal.returns-else-left-lt-FULL
-returns-else-left-lt-FULL c tie.Need-returns-2 returns-2 c = rw c.before.if1.true (omega arith)
+returns-else-left-lt-FULL c = rw c.if-follower-eq-KIND.true (omega arith)
 
 pub returns-else-follower-eq-KIND : goal.returns-else-follower-eq-KIND
-returns-else-follower-eq-KIND c tie.Need-returns-3 returns-3 c = rw (ne_eqb _ 6 c.if1.false)
+returns-else-follower-eq-KIND c = rw (ne_eqb _ 6 c.if-follower-eq-KIND.false)

@@ -12,21 +12,18 @@ use Rattle.sheet_walk.proofs.with_scatterers.Goals as goal
 
 pub mask_of-requires : goal.mask_of-requires
 unfolding body_length
-mask_of-requires c tie.Need-mask-of-requires unfolding body_length mask-of-requires c = omega arith
+mask_of-requires c = omega arith
 
 pub each_of-requires : goal.each_of-requires
-each_of-requires c tie.Need-each-of-requires each-of-requires c =
-    let narrow = c.before.before.scatterers-behind.ensures.2 in
+each_of-requires c =
+    let narrow = c.scatterers_behind-s.ensures.2 in
     (omega (arith, narrow.0), omega (arith, narrow.1), omega (arith, narrow.2), omega (arith, narrow.3))
 
 pub returns : goal.returns
 unfolding total
-returns c tie.Need-returns unfolding total returns c =
-    let mask = c.before.before in
-    let s = mask.before in
-    let start = s.before.before in
-    let d = c.before.fields-length.ensures in
-    let few = s.scatterers-behind.ensures in (
+returns c =
+    let d = c.fields_length.ensures in
+    let few = c.scatterers_behind-s.ensures in (
       (omega (arith, d.1), omega (arith, few.1), omega (arith, few.2)),
-      hrr-lead start.args.b.now start.requires _ _ s.scatterers-behind.result (d.0 ∙ ap (λ (k c ℕ). announced_length k 2 hrr_widths) mask.mask-of.ensures) few.0 (omega (arith, c.each_of.ensures.0)),
+      hrr-lead c.args.b.now c.requires _ _ c.scatterers_behind-s.result (d.0 ∙ ap (λ (k : ℕ). announced_length k 2 hrr_widths) c.mask_of.ensures) few.0 (omega (arith, c.each_of.ensures.0)),
     )

@@ -10,23 +10,22 @@ use Rattle.sheet_walk.proofs.with_targets.Goals as goal
 
 pub get_u64-mask-requires : goal.get_u64-mask-requires
 unfolding body_length
-get_u64-mask-requires c tie.Need-get-u64-requires unfolding body_length get-u64-requires c = omega arith
+get_u64-mask-requires c = omega arith
 
 pub get_u16-targets-requires : goal.get_u16-targets-requires
 unfolding body_length
-get_u16-targets-requires c tie.Need-get-u16-requires unfolding body_length get-u16-requires c = omega arith
+get_u16-targets-requires c = omega arith
 
 pub overflow_add-result : goal.overflow_add-result
 unfolding total
-overflow_add-result c tie.Need-overflow-add-t5 unfolding total add-t5 c = omega (arith, c.dwell-length.ensures, announced-le c.before.before.get-u64.result 2 dwell_widths)
+overflow_add-result c = omega (arith, c.dwell_length.ensures, announced-le c.get_u64-mask.result 2 dwell_widths)
 
 pub returns : goal.returns
 unfolding total
-returns c tie.Need-returns unfolding total returns c =
-    let s = c.before.before.before.before.before in
-    let mask = c.before.before.before.get-u64 in
-    let d = c.before.dwell-length.ensures in
-    let u = c.target-length.ensures in (
+returns c =
+    let mask = c.get_u64-mask in
+    let d = c.dwell_length.ensures in
+    let u = c.target_length.ensures in (
       omega (arith, d, u, announced-le mask.result 2 dwell_widths, announced-le mask.result 32 target_widths),
-      dwell-lead s.args.b.now s.requires mask.result _ _ _ mask.ensures d c.before.before.get-u16.ensures u,
+      dwell-lead c.args.b.now c.requires mask.result _ _ _ mask.ensures d c.get_u16-targets.ensures u,
     )

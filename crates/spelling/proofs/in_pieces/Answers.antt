@@ -15,18 +15,18 @@ is-opaque c = ⊎_elim (λ e. absurd (c.if-kind-eq-KIND.false e)) (λ e. e) c.re
 
 pub get_u32-requires : goal.get_u32-requires
 unfolding body_length
-get_u32-requires c tie.Need-get-u32-requires unfolding body_length get-text c = omega (arith, c.before.before.requires.0, ap body_length c.if1.true)
+get_u32-requires c = omega (arith, c.requires.0, ap body_length c.if-kind-eq-KIND.true)
 
 pub get_u32-requires-else-kind-eq-KIND : goal.get_u32-requires-else-kind-eq-KIND
 unfolding body_length
-get_u32-requires-else-kind-eq-KIND c tie.Need-get-u32-requires-2 unfolding body_length get-opaque c = omega (arith, c.before.before.requires.0, ap body_length (is-opaque c))
+get_u32-requires-else-kind-eq-KIND c = omega (arith, c.requires.0, ap body_length (is-opaque (goal.at.get_u32-requires-else-kind-eq-KIND c).Else-kind-eq-KIND))
 
 pub returns-then-kind-eq-KIND : goal.returns-then-kind-eq-KIND
-returns-then-kind-eq-KIND c tie.Need-returns returns c =
-    let a = c.before.before.before.args in
-    c.get-u32.ensures ∙ sym (ap (λ (d c Due). d.left) (text-due a.kind a.b.now c.before.if1.true))
+returns-then-kind-eq-KIND c =
+    let a = c.args in
+    c.get_u32.ensures ∙ sym (ap (λ (d : Due). d.left) (text-due a.kind a.b.now c.if-kind-eq-KIND.true))
 
 pub returns-else-kind-eq-KIND : goal.returns-else-kind-eq-KIND
-returns-else-kind-eq-KIND c tie.Need-returns-2 returns-2 c =
-    let a = c.before.before.before.args in
-    c.get-u322.ensures ∙ sym (ap (λ (d c Due). d.left) (opaque-due a.kind a.b.now (is-opaque c.before)))
+returns-else-kind-eq-KIND c =
+    let a = c.args in
+    c.get_u32-else-kind-eq-KIND.ensures ∙ sym (ap (λ (d : Due). d.left) (opaque-due a.kind a.b.now (is-opaque (goal.at.returns-else-kind-eq-KIND c).Else-kind-eq-KIND)))

@@ -4,7 +4,7 @@ use mathlib.Core.Path.{sym, ◌∙◌}
 use Rattle.spelling.proofs.incomplete.Goals as goal
 
 pub returns-then-is_rest : goal.returns-then-is_rest
-returns-then-is_rest c tie.Need-returns returns c = rw (sym c.before.is-rest.ensures ∙ c.if1.true)
+returns-then-is_rest c = rw (sym c.is_rest.ensures ∙ c.if-is_rest.true)
 
 pub returns-else-is_rest : goal.returns-else-is_rest
-returns-else-is_rest c tie.Need-returns-2 returns-2 c = rw (sym c.before.is-rest.ensures ∙ c.if1.false)
+returns-else-is_rest c = rw (sym c.is_rest.ensures ∙ c.if-is_rest.false)

@@ -4,10 +4,10 @@ use borrow.Author.Tests.{eq-eqb, ne_eqb}
 use Rattle.spelling.proofs.leads_row.Goals as goal
 
 pub returns-then-kind-eq-KIND : goal.returns-then-kind-eq-KIND
-returns-then-kind-eq-KIND c tie.Need-returns returns c = rw (eq-eqb c.before.args.kind 5 c.if1.true)
+returns-then-kind-eq-KIND c = rw (eq-eqb c.args.kind 5 c.if-kind-eq-KIND.true)
 
 pub returns-then-kind-eq-KIND-2 : goal.returns-then-kind-eq-KIND-2
-returns-then-kind-eq-KIND-2 c tie.Need-returns-2 returns-2 c = rw (ne_eqb c.before.before.args.kind 5 c.before.if1.false, eq-eqb c.before.before.args.kind 7 c.if2.true)
+returns-then-kind-eq-KIND-2 c = rw (ne_eqb c.args.kind 5 c.if-kind-eq-KIND.false, eq-eqb c.args.kind 7 c.if-kind-eq-KIND-2.true)
 
 pub returns : goal.returns
-returns c tie.Need-returns-3 returns-3 c = rw (ne_eqb c.before.before.args.kind 5 c.before.if1.false, ne_eqb c.before.before.args.kind 7 c.if2.false)
+returns c = rw (ne_eqb c.args.kind 5 c.if-kind-eq-KIND.false, ne_eqb c.args.kind 7 c.if-kind-eq-KIND-2.false)

@@ -39,30 +39,30 @@ scatterers-there c = let a = c.args in
     from_place a.x.now a.at 12 a.left (c.are_scatterers.ensures.0 c.if-are_scatterers.true)
 
 pub overflow_mul-result : goal.overflow_mul-result
-overflow_mul-result c tie.Need-overflow-mul-t12 mul-full c = let s = c.before.before.before.before.before in omega (arith, (full-there c).long, length-drop s.args.at s.args.x.now, s.well-formed)
+overflow_mul-result c = omega (arith, (full-there (goal.at.overflow_mul-result c).Then-are_full_pieces).long, length-drop c.args.at c.args.x.now, c.well-formed)
 
 pub overflow_add-result : goal.overflow_add-result
-overflow_add-result c tie.Need-overflow-add-t13 add-full c = let s = c.before.before.before.before.before in omega (arith, (full-there c).long, length-drop s.args.at s.args.x.now, s.well-formed, s.requires)
+overflow_add-result c = omega (arith, (full-there (goal.at.overflow_add-result c).Then-are_full_pieces).long, length-drop c.args.at c.args.x.now, c.well-formed, c.requires)
 
 pub returns-then-are_full_pieces : goal.returns-then-are_full_pieces
-returns-then-are_full_pieces c tie.Need-returns returns c = let a = c.before.before.before.before.before.args in
-    past-pieces a.x.now a.at a.follower a.left c.before.before.before.if1.true (full-there c)
+returns-then-are_full_pieces c = let a = c.args in
+    past-pieces a.x.now a.at a.follower a.left c.if-follower-eq-KIND.true (full-there (goal.at.returns-then-are_full_pieces c).Then-are_full_pieces)
 
 pub returns-then-follower-eq-KIND : goal.returns-then-follower-eq-KIND
-returns-then-follower-eq-KIND c tie.Need-returns-2 returns-2 c = let a = c.before.before.before.before.before.args in stays a.x.now a.at a.follower a.left
+returns-then-follower-eq-KIND c = let a = c.args in stays a.x.now a.at a.follower a.left
 
 pub returns-then-follower-ne-KIND : goal.returns-then-follower-ne-KIND
-returns-then-follower-ne-KIND c tie.Need-returns-3 returns-3 c = let a = c.before.before.before.args in stays a.x.now a.at a.follower a.left
+returns-then-follower-ne-KIND c = let a = c.args in stays a.x.now a.at a.follower a.left
 
 pub overflow_mul-result-then-are_scatterers : goal.overflow_mul-result-then-are_scatterers
-overflow_mul-result-then-are_scatterers c tie.Need-overflow-mul-t20 mul-all c = let s = c.before.before.before.before.before.before in omega (arith, (scatterers-there c).long, length-drop s.args.at s.args.x.now, s.well-formed)
+overflow_mul-result-then-are_scatterers c = omega (arith, (scatterers-there (goal.at.overflow_mul-result-then-are_scatterers c).Then-are_scatterers).long, length-drop c.args.at c.args.x.now, c.well-formed)
 
 pub overflow_add-result-then-are_scatterers : goal.overflow_add-result-then-are_scatterers
-overflow_add-result-then-are_scatterers c tie.Need-overflow-add-t21 add-all c = let s = c.before.before.before.before.before.before in omega (arith, (scatterers-there c).long, length-drop s.args.at s.args.x.now, s.well-formed, s.requires)
+overflow_add-result-then-are_scatterers c = omega (arith, (scatterers-there (goal.at.overflow_add-result-then-are_scatterers c).Then-are_scatterers).long, length-drop c.args.at c.args.x.now, c.well-formed, c.requires)
 
 pub returns-then-are_scatterers : goal.returns-then-are_scatterers
-returns-then-are_scatterers c tie.Need-returns-4 returns-4 c = let a = c.before.before.before.before.before.before.args in
-    past-scatterers a.x.now a.at a.follower a.left c.before.before.before.if3.false (scatterers-there c)
+returns-then-are_scatterers c = let a = c.args in
+    past-scatterers a.x.now a.at a.follower a.left c.if-follower-ne-KIND.false (scatterers-there (goal.at.returns-then-are_scatterers c).Then-are_scatterers)
 
 pub returns : goal.returns
-returns c tie.Need-returns-5 returns-5 c = let a = c.before.before.before.before.before.before.args in stays a.x.now a.at a.follower a.left
+returns c = let a = c.args in stays a.x.now a.at a.follower a.left

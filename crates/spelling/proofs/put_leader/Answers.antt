@@ -21,37 +21,28 @@ room : (s : Start) → 5 + length (given (leader s)) ≤ length s.args.o.now
 room s = omega (arith, begun-length (leader s), s.requires.1)
 
 pub overflow_cast-size : goal.overflow_cast-size
-overflow_cast-size c tie.Need-overflow-cast-put-head cast-put-head c =
-    let s = c.before.before.before.before in
-    omega (arith, c.segment-size.ensures.0, lead-size (leader s) _ c.before.lead-of.ensures.1, s.requires.0.2)
+overflow_cast-size c =
+    omega (arith, c.segment_size-size.ensures.0, lead-size (leader c) _ c.lead_of-l.ensures.1, c.requires.0.2)
 
 pub put_head-requires : goal.put_head-requires
-put_head-requires c tie.Need-put-head-requires put-head-requires c = omega (arith, room c.before.before.before.before.before)
+put_head-requires c = omega (arith, room (goal.at.put_head-requires c).Start)
 
 pub slice_bounds-put_given-count : goal.slice_bounds-put_given-count
-slice_bounds-put_given-count c tie.Need-overflow-sub-put-given sub-put-given c = omega (arith, room c.before.before.before.before.before.before.before.before, c.before.before.put-head.auto.1.1.0)
+slice_bounds-put_given-count c = omega (arith, room (goal.at.slice_bounds-put_given-count c).Start, c.put_head.auto.1.1.0)
 
 pub slice_bounds-put_given-start : goal.slice_bounds-put_given-start
-slice_bounds-put_given-start c tie.Need-slice-bounds-put-given-start part-put-given-start c = omega (arith, room c.before.before.before.before.before.before.before.before, c.before.before.put-head.auto.1.1.0)
+slice_bounds-put_given-start c = omega (arith, room (goal.at.slice_bounds-put_given-start c).Start, c.put_head.auto.1.1.0)
 
 pub put_given-requires : goal.put_given-requires
-put_given-requires c tie.Need-put-given-requires put-given-requires c =
-    let head = c.before.before.before in
-    let lead = head.before.before.before in
-    let s = lead.before.before.before in
-    let h = head.put-head.new.1.1.0 in
-    let n = lead-given (leader s) _ lead.lead-of.ensures.1 in
-    (s.requires.0.0, n, rw (tail-is 5 h, length-drop 5 h) (omega (arith, n, room s, head.put-head.auto.1.1.0)))
+put_given-requires c =
+    let h = c.put_head.new.1.1.0 in
+    let n = lead-given (leader c) _ c.lead_of-l.ensures.1 in
+    (c.requires.0.0, n, rw (tail-is 5 h, length-drop 5 h) (omega (arith, n, room (goal.at.put_given-requires c).Start, c.put_head.auto.1.1.0)))
 
 pub returns : goal.returns
-returns c tie.Need-returns returns c =
-    let filled = c.before.before in
-    let head = filled.before.before.before.before in
-    let size = head.before.before in
-    let lead = size.before in
-    let s = lead.before.before.before in
-    let r = leader s in
-    let e = lead.lead-of.ensures.1 in (
+returns c =
+    let r = leader c in
+    let e = c.lead_of-l.ensures.1 in (
       omega (arith, begun-length r, lead-given r _ e),
-      leader-stored r _ e _ s.args.o.now size.segment-size.ensures.0 head.put-head.ensures (part_filled head.put-head.new.1.1.0 (given r) 5 filled.put-given.ensures),
+      leader-stored r _ e _ c.args.o.now c.segment_size-size.ensures.0 c.put_head.ensures (part_filled c.put_head.new.1.1.0 (given r) 5 c.put_given.ensures),
     )

@@ -19,27 +19,20 @@ room : (s : Start) → 5 + announced_length (hrr_mask s.args.b.now) 2 hrr_widths
 room s = omega (arith, hrr-length 11 s.args.b.now s.requires.0 refl, s.requires.1)
 
 pub copy4-requires : goal.copy4-requires
-copy4-requires c tie.Need-copy4-requires copy4-requires c = let s = c.before.before.before in omega (arith, long s, room s)
+copy4-requires c = omega (arith, long (goal.at.copy4-requires c).Start, room (goal.at.copy4-requires c).Start)
 
 pub copy1-requires : goal.copy1-requires
-copy1-requires c tie.Need-copy1-requires copy1-requires c = let s = c.before.before.before.before.before.before.before in omega (arith, long s, room s, c.before.before.before.copy4.auto.1.1.0)
+copy1-requires c = omega (arith, long (goal.at.copy1-requires c).Start, room (goal.at.copy1-requires c).Start, c.copy4.auto.1.1.0)
 
 pub mask_of-requires : goal.mask_of-requires
-mask_of-requires c tie.Need-mask-of-requires mask-of-requires c = omega (arith, long c.before.before.before.before.before.before.before.before.before.before)
+mask_of-requires c = omega (arith, long (goal.at.mask_of-requires c).Start)
 
 pub hrr_fields-requires : goal.hrr_fields-requires
 unfolding total
-hrr_fields-requires c tie.Need-hrr-fields-requires unfolding total hrr-fields-requires c =
-    let one = c.before.before.before.before in
-    let four = one.before.before.before.before in
-    let s = four.before.before.before.before in
-    let m = ap (λ (k c ℕ). announced_length k 2 hrr_widths) c.before.mask-of.ensures in
-    record { held = omega (arith, long s); room = omega (arith, room s, m, one.copy1.auto.1.1.0, four.copy4.auto.1.1.0) }
+hrr_fields-requires c =
+    let m = ap (λ (k : ℕ). announced_length k 2 hrr_widths) c.mask_of.ensures in
+    record { held = omega (arith, long (goal.at.hrr_fields-requires c).Start); room = omega (arith, room (goal.at.hrr_fields-requires c).Start, m, c.copy1.auto.1.1.0, c.copy4.auto.1.1.0) }
 
 pub returns : goal.returns
-returns c tie.Need-returns returns c =
-    let mask = c.before.before.before.before in
-    let one = mask.before.before.before in
-    let four = one.before.before.before.before in
-    let s = four.before.before.before.before in
-    hrr-stored 11 s.args.b.now s.requires.0 refl _ mask.mask-of.ensures s.args.o.now four.copy4.ensures one.copy1.ensures c.before.before.hrr-fields.ensures.stored
+returns c =
+    hrr-stored 11 c.args.b.now c.requires.0 refl _ c.mask_of.ensures c.args.o.now c.copy4.ensures c.copy1.ensures c.hrr_fields.ensures.stored

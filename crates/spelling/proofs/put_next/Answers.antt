@@ -30,58 +30,53 @@ module _ (s : Start) where
   room = omega (arith, s.requires.1, next-length (leading s.args.leader.now) record_of s.args.rest.now)
 
 pub put_record-n-requires : goal.put_record-n-requires
-put_record-n-requires c tie.Need-put-record-requires put-record-requires c =
-    let s = c.before.before.before.before.before in
-    (s.requires.0.0, omega (arith, room s))
+put_record-n-requires c =
+    (c.requires.0.0, omega (arith, room (goal.at.put_record-n-requires c).Start))
 
 -- the row's part of o
 pub slice_bounds-put_row-count : goal.slice_bounds-put_row-count
-slice_bounds-put_row-count c tie.Need-overflow-sub-put-row sub-put-row c =
-    let put = c.before.before.before.before.put_record in
-    omega (arith, room c.before.before.before.before.before.before.before.before.before.before, put.ensures.0, put.auto.1.1.1.0)
+slice_bounds-put_row-count c =
+    let put = c.put_record-n in
+    omega (arith, room (goal.at.slice_bounds-put_row-count c).Start, put.ensures.0, put.auto.1.1.1.0)
 
 pub slice_bounds-put_row-start : goal.slice_bounds-put_row-start
-slice_bounds-put_row-start c tie.Need-slice-bounds-put-row-start part-put-row-start c =
-    let put = c.before.before.before.before.put_record in
-    omega (arith, room c.before.before.before.before.before.before.before.before.before.before, put.ensures.0, put.auto.1.1.1.0)
+slice_bounds-put_row-start c =
+    let put = c.put_record-n in
+    omega (arith, room (goal.at.slice_bounds-put_row-start c).Start, put.ensures.0, put.auto.1.1.1.0)
 
 pub put_row-behind-requires : goal.put_row-behind-requires
-put_row-behind-requires c tie.Need-put-row-requires put-row-requires c =
-    let put = c.before.before.before.before.before.put_record in
-    let s = c.before.before.before.before.before.before.before.before.before.before.before in
+put_row-behind-requires c =
+    let put = c.put_record-n in
     let o = put.new.1.1.1.0 in (
-      s.requires.0.0.0,
-      sym c.before.before.leads-row.ensures ∙ c.before.if1.true,
-      (s.requires.0.1, rw (tail-is put.result o, length-drop) (omega (arith, room s, put.ensures.0, put.auto.1.1.1.0))),
+      c.requires.0.0.0,
+      sym c.leads_row.ensures ∙ c.if-leads_row.true,
+      (c.requires.0.1, rw (tail-is put.result o, length-drop) (omega (arith, room (goal.at.put_row-behind-requires c).Start, put.ensures.0, put.auto.1.1.1.0))),
     )
 
 pub overflow_add-result : goal.overflow_add-result
-overflow_add-result c tie.Need-overflow-add-t12 add-written c =
-    let put = c.before.before.before.before.before.before.before.before.before.put_record in
-    let s = c.before.before.before.before.before.before.before.before.before.before.before.before.before.before.before in
-    omega (arith, room s, put.ensures.0, c.before.before.before.put-row.ensures.written_is, s.well-formed)
+overflow_add-result c =
+    let put = c.put_record-n in
+    omega (arith, room (goal.at.overflow_add-result c).Start, put.ensures.0, c.put_row-behind.ensures.written_is, c.well-formed)
 
 pub returns-then-leads_row : goal.returns-then-leads_row
-returns-then-leads_row c tie.Need-returns returns c =
-    let put = c.before.before.before.before.before.before.before.before.before.put_record in
-    let s = c.before.before.before.before.before.before.before.before.before.before.before.before.before.before.before in
-    let row = c.before.before.before.put-row.ensures in
+returns-then-leads_row c =
+    let put = c.put_record-n in
+    let row = c.put_row-behind.ensures in
     let n = put.result in
     let o = put.new.1.1.1.0 in
-    let start c n ≡ 0 + n = omega arith in
-    let leader = leading s.args.leader.now in (
-      (row.read_is, omega (arith, put.ensures.0, row.written_is, next-length leader (record_of s) s.args.rest.now)),
-      then (first s) (behind s) s.args.o.now 0 n put.ensures.1 (sym put.ensures.0) (part_filled o (behind s) n row.stored ∙ ap (λ (i c ℕ). sets o i (behind s)) start)
-          ∙ ap (sets s.args.o.now 0) (next-is leader (record_of s) s.args.rest.now),
+    let start : n ≡ 0 + n = omega arith in
+    let leader = leading c.args.leader.now in (
+      (row.read_is, omega (arith, put.ensures.0, row.written_is, next-length leader (record_of (goal.at.returns-then-leads_row c).Start) c.args.rest.now)),
+      then (first (goal.at.returns-then-leads_row c).Start) (behind (goal.at.returns-then-leads_row c).Start) c.args.o.now 0 n put.ensures.1 (sym put.ensures.0) (part_filled o (behind (goal.at.returns-then-leads_row c).Start) n row.stored ∙ ap (λ (i : ℕ). sets o i (behind (goal.at.returns-then-leads_row c).Start)) start)
+          ∙ ap (sets c.args.o.now 0) (next-is leader (record_of (goal.at.returns-then-leads_row c).Start) c.args.rest.now),
     )
 
 pub returns : goal.returns
-returns c tie.Need-returns-2 returns-2 c =
-    let put = c.before.before.before.before.put_record in
-    let s = c.before.before.before.before.before.before.before.before.before.before in
-    let leader = leading s.args.leader.now in
-    let none = no_row s.args.kind s.args.b.now (sym c.before.leads-row.ensures ∙ c.if1.false) in
-    let e = alone-next leader (record_of s) s.args.rest.now none in (
-      (alone-read leader (record_of s) s.args.rest.now none, put.ensures.0 ∙ ap length e),
-      put.ensures.1 ∙ ap (sets s.args.o.now 0) e,
+returns c =
+    let put = c.put_record-n in
+    let leader = leading c.args.leader.now in
+    let none = no_row c.args.kind c.args.b.now (sym c.leads_row.ensures ∙ c.if-leads_row.false) in
+    let e = alone-next leader (record_of (goal.at.returns c).Start) c.args.rest.now none in (
+      (alone-read leader (record_of (goal.at.returns c).Start) c.args.rest.now none, put.ensures.0 ∙ ap length e),
+      put.ensures.1 ∙ ap (sets c.args.o.now 0) e,
     )

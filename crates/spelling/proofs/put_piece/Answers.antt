@@ -7,6 +7,6 @@ use Rattle.octets.proofs.Parts.{part-is}
 use Rattle.spelling.proofs.put_piece.Goals as goal
 
 pub returns : goal.returns
-returns c tie.Need-returns returns c =
-    let a = c.before.before.before.before.before.before.before.before.args in
-    (refl, c.before.before.copy-to-32.ensures ∙ ap (sets a.o.now 0) (part-is a.b.now 1 (get_or a.b.now 0 0)))
+returns c =
+    let a = c.args in
+    (refl, c.copy_to_32.ensures ∙ ap (sets a.o.now 0) (part-is a.b.now 1 (get_or a.b.now 0 0)))

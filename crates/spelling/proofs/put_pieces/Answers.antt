@@ -53,9 +53,8 @@ count-is : (c : After-in_pieces) → c.in_pieces.result / 32 ≡ many (goal.at.A
 count-is c = ap (λ (n : ℕ). n / 32) c.in_pieces.ensures
 
 pub put_full_pieces-requires : goal.put_full_pieces-requires
-put_full_pieces-requires c tie.Need-put-full-pieces-requires put-full-pieces-requires c =
-    let s = c.before.before.before.before.before in
-    (omega (arith, (begins s).long, count-is c.before), omega (arith, given-length s, s.requires.2.1, count-is c.before))
+put_full_pieces-requires c =
+    (omega (arith, (begins (goal.at.put_full_pieces-requires c).Start).long, count-is (goal.at.put_full_pieces-requires c).After-in_pieces), omega (arith, given-length (goal.at.put_full_pieces-requires c).Start, c.requires.2.1, count-is (goal.at.put_full_pieces-requires c).After-in_pieces))
 
 -- what it takes on the sheet and in the packet
 module _ (c : After-slice_known-2-1) where
@@ -69,19 +68,18 @@ module _ (c : After-slice_known-2-1) where
   mul-written = omega (arith, mul-read)
 
 pub overflow_mul-result : goal.overflow_mul-result
-overflow_mul-result c tie.Need-overflow-mul-t7 mul-t7 c = omega (arith, mul-read c, c.before.before.before.before.before.before.before.before.well-formed)
+overflow_mul-result c = omega (arith, mul-read (goal.at.overflow_mul-result c).After-slice_known-2-1, c.well-formed)
 
 pub overflow_mul-result-2 : goal.overflow_mul-result-2
-overflow_mul-result-2 c tie.Need-overflow-mul-t11 mul-t11 c = omega (arith, mul-written c, c.before.before.before.before.before.before.before.before.well-formed)
+overflow_mul-result-2 c = omega (arith, mul-written (goal.at.overflow_mul-result-2 c).After-slice_known-2-1, c.well-formed)
 
 pub returns : goal.returns
-returns c tie.Need-returns returns c =
-    let s = c.before.before.before.before.before.before.before.before in
+returns c =
     record {
-      read_is = ap (λ (n c ℕ). n * record_length 6) (counts c) ∙ read_all s;
-      written_is = ap (λ (n c ℕ). n * 32) (counts c) ∙ sym (given-length s);
+      read_is = ap (λ (n : ℕ). n * record_length 6) (counts (goal.at.returns c).After-slice_known-2-1) ∙ read_all (goal.at.returns c).Start;
+      written_is = ap (λ (n : ℕ). n * 32) (counts (goal.at.returns c).After-slice_known-2-1) ∙ sym (given-length (goal.at.returns c).Start);
       stored =
-          c.before.before.put-full-pieces.ensures
-          ∙ ap (λ (n c ℕ). sets s.args.o.now 0 (carried_all n s.args.rest.now)) (counts c)
-          ∙ sym (ap (sets s.args.o.now 0) (given_is s));
+          c.put_full_pieces.ensures
+          ∙ ap (λ (n : ℕ). sets c.args.o.now 0 (carried_all n c.args.rest.now)) (counts (goal.at.returns c).After-slice_known-2-1)
+          ∙ sym (ap (sets c.args.o.now 0) (given_is (goal.at.returns c).Start));
     }

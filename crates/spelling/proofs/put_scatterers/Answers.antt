@@ -44,8 +44,8 @@ module _ (s : Start) where
   read_all = refl
 
 pub each_of-each-requires : goal.each_of-each-requires
-each_of-each-requires c tie.Need-each-of-requires each-of-requires c =
-    let narrow = c.scatterers-behind.ensures.2 in
+each_of-each-requires c =
+    let narrow = c.scatterers_behind-s.ensures.2 in
     (omega (arith, narrow.0), omega (arith, narrow.1), omega (arith, narrow.2), omega (arith, narrow.3))
 
 -- what they take, by what is known of them
@@ -56,22 +56,19 @@ takes c =
     ap (λ (n : ℕ). few.result.count * n) c.each_of-each.ensures.0 ∙ ap (λ (y : Scatterers). y.count * total (widths_of y)) few.ensures.0
 
 pub scatterers-requires : goal.scatterers-requires
-scatterers-requires c tie.Need-scatterers-requires scatterers-requires c =
-    let few = c.before.before.scatterers-behind.ensures in
-    let s = c.before.before.before.before.before.before in
-    (few.2, omega (arith, long s, ap (λ (x c Scatterers). x.count) few.0), omega (arith, ap (λ (x c Scatterers). x.count * total (widths_of x)) few.0, all_are s, s.requires.1.1))
+scatterers-requires c =
+    let few = c.scatterers_behind-s.ensures in
+    (few.2, omega (arith, long (goal.at.scatterers-requires c).Start, ap (λ (x : Scatterers). x.count) few.0), omega (arith, ap (λ (x : Scatterers). x.count * total (widths_of x)) few.0, all_are (goal.at.scatterers-requires c).Start, c.requires.1.1))
 
 pub returns : goal.returns
-returns c tie.Need-returns returns c =
-    let sum = c.before.before.before.before.before.before in
-    let few = sum.before.scatterers-behind.ensures.0 in
-    let s = sum.before.before.before.before.before in
-    let stored = c.before.before.before.before.scatterers.ensures in
+returns c =
+    let few = c.scatterers_behind-s.ensures.0 in
+    let stored = c.scatterers.ensures in
     record {
-      read_is = ap (λ (x c Scatterers). x.count * record_length 12) few ∙ read_all s;
-      written_is = takes sum ∙ sym (all_are s);
+      read_is = ap (λ (x : Scatterers). x.count * record_length 12) few ∙ read_all (goal.at.returns c).Start;
+      written_is = takes (goal.at.returns c).After-each_of-each ∙ sym (all_are (goal.at.returns c).Start);
       stored =
           stored
-          ∙ ap (λ (x c Scatterers). sets s.args.o.now 0 (narrowed_all (widths_of x) x.count s.args.rest.now)) few
-          ∙ sym (ap (sets s.args.o.now 0) (given_is s));
+          ∙ ap (λ (x : Scatterers). sets c.args.o.now 0 (narrowed_all (widths_of x) x.count c.args.rest.now)) few
+          ∙ sym (ap (sets c.args.o.now 0) (given_is (goal.at.returns c).Start));
     }

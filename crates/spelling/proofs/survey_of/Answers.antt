@@ -11,20 +11,20 @@ use Rattle.spelling.proofs.survey_of.Goals as goal
 use Rattle.spelling.proofs.survey_of.Goals.{In-Then, In-Whole}
 
 pub returns-then-at-eq0 : goal.returns-then-at-eq0
-returns-then-at-eq0 c tie.Need-returns invariant-loop decreases-loop returns c = sym (no-header c.before.before.before.args.x.now (sym c.before.header-end.ensures ∙ c.if1.true))
+returns-then-at-eq0 c = sym (no-header c.args.x.now (sym c.header_end-at.ensures ∙ c.if-at-eq0.true))
 
 pub loop-kind-init : goal.loop-kind-init
-loop-kind-init c tie.Need-loop-init invariant-loop decreases-loop loop-holds c = start c.before.before.before.args.x.now _ c.before.header-end.ensures c.if1.false
+loop-kind-init c = start c.args.x.now _ c.header_end-at.ensures c.if-at-eq0.false
 
 pub returns-in-Cut : goal.returns-in-Cut
-returns-in-Cut c tie.Need-returns-2 invariant-loop decreases-loop returns-2 c =
-    let l = c.before.before.before.loop in
-    sym (at_cut _ _ _ _ _ l.invariant (at_place _ _ c.before.before.record-at.ensures c.enum_told.given.1))
+returns-in-Cut c =
+    let l = c.loop-kind in
+    sym (at_cut _ _ _ _ _ l.invariant (at_place _ _ c.record_at.ensures c.in-Cut.is))
 
 pub returns-in-End : goal.returns-in-End
-returns-in-End c tie.Need-returns-3 invariant-loop decreases-loop returns-3 c =
-    let l = c.before.before.before.before.loop in
-    let e = at_place _ _ c.before.before.before.record-at.ensures c.before.enum-told2.given.1 in
+returns-in-End c =
+    let l = c.loop-kind in
+    let e = at_place _ _ c.record_at.ensures c.in-End.is in
     c.ended.ensures ∙ sym (at-end _ _ _ _ _ l.invariant e)
 
 -- the record in a turn
@@ -34,32 +34,30 @@ here : (c : In-Whole)
 here c = at_place _ _ c.record_at.ensures c.in-Whole.is
 
 pub returns-then-kind-eq-KIND : goal.returns-then-kind-eq-KIND
-returns-then-kind-eq-KIND c tie.Need-returns-4 invariant-loop decreases-loop returns-4 c = sym (again _ _ _ _ _ c.before.before.before.before.before.loop.invariant _ _ (here c.before) c.if2.true)
+returns-then-kind-eq-KIND c = sym (again _ _ _ _ _ c.loop-kind.invariant _ _ (here (goal.at.returns-then-kind-eq-KIND c).In-Whole) c.if-kind-eq-KIND.true)
 
 pub overflow_add-from : goal.overflow_add-from
-overflow_add-from c tie.Need-overflow-add-from invariant-loop decreases-loop add-from c = omega (arith, (here c.before).within, (here c.before).fits)
+overflow_add-from c = omega (arith, (here (goal.at.overflow_add-from c).In-Whole).within, (here (goal.at.overflow_add-from c).In-Whole).fits)
 
 pub slice_bounds-count-count : goal.slice_bounds-count-count
-slice_bounds-count-count c tie.Need-overflow-sub-count invariant-loop decreases-loop sub-count c = omega (arith, (here c.before).within)
+slice_bounds-count-count c = omega (arith, (here (goal.at.slice_bounds-count-count c).In-Whole).within)
 
 pub slice_bounds-count-start : goal.slice_bounds-count-start
-slice_bounds-count-start c tie.Need-slice-bounds-count-start invariant-loop decreases-loop part-count-start c = omega (arith, (here c.before).within, (here c.before).fits)
+slice_bounds-count-start c = omega (arith, (here (goal.at.slice_bounds-count-start c).In-Whole).within, (here (goal.at.slice_bounds-count-start c).In-Whole).fits)
 
 pub slice_bounds-count-end : goal.slice_bounds-count-end
-slice_bounds-count-end c tie.Need-slice-bounds-count-end invariant-loop decreases-loop part-count-end c = omega (arith, (here c.before).within, (here c.before).fits)
+slice_bounds-count-end c = omega (arith, (here (goal.at.slice_bounds-count-end c).In-Whole).within, (here (goal.at.slice_bounds-count-end c).In-Whole).fits)
 
 pub count-requires : goal.count-requires
-count-requires c tie.Need-count-requires invariant-loop decreases-loop count-requires c =
-    let f = (here c.before.before).formed in
-    (f.length_is, omega (arith, f.kind, f.length_is), c.before.before.before.before.before.before.loop.invariant.short)
+count-requires c =
+    let f = (here (goal.at.count-requires c).In-Whole).formed in
+    (f.length_is, omega (arith, f.kind, f.length_is), c.loop-kind.invariant.short)
 
 pub returns-in-Misplaced : goal.returns-in-Misplaced
-returns-in-Misplaced c tie.Need-returns-5 invariant-loop decreases-loop returns-5 c =
-    let counted = c.before.before.before in
-    let turning = counted.before.before in
-    let l = turning.before.before.before.before.before.loop in
+returns-in-Misplaced c =
+    let l = c.loop-kind in
     c.incomplete.ensures
-    ∙ sym (onward _ _ _ _ _ l.invariant _ _ (here turning.before) turning.if2.false (sym c.before.enum-told3.given.1 ∙ counted.count.ensures))
+    ∙ sym (onward _ _ _ _ _ l.invariant _ _ (here (goal.at.returns-in-Misplaced c).In-Whole) c.if-kind-eq-KIND.false (sym c.in-Misplaced.is ∙ c.count.ensures))
 
 -- what is kept behind the record
 behind : (c : In-Then) → let f = c.f-1.given.0 in
@@ -69,21 +67,21 @@ behind c =
     turn _ _ _ _ _ l.invariant _ _ (here (goal.at.In-Then c).In-Whole) c.if-kind-eq-KIND.false _ _ _ (sym c.in-Then.is ∙ c.count.ensures)
 
 pub loop-kind-smaller-then-left-gt0 : goal.loop-kind-smaller-then-left-gt0
-loop-kind-smaller-then-left-gt0 c tie.Need-loop-smaller invariant-loop decreases-loop loop-less c =
-    let h = here c.before.before.before.before.before.before.before in
+loop-kind-smaller-then-left-gt0 c =
+    let h = here (goal.at.loop-kind-smaller-then-left-gt0 c).In-Whole in
     omega (arith, h.within, h.fits)
 
 pub loop-kind-preserved-then-left-gt0 : goal.loop-kind-preserved-then-left-gt0
-loop-kind-preserved-then-left-gt0 c tie.Need-loop-preserved invariant-loop decreases-loop loop-again c = behind c.before
+loop-kind-preserved-then-left-gt0 c = behind (goal.at.loop-kind-preserved-then-left-gt0 c).In-Then
 
 pub passed-ahead-requires : goal.passed-ahead-requires
-passed-ahead-requires c tie.Need-passed-requires invariant-loop decreases-loop passed-requires c = (here c.before.before.before.before.before.before.before).fits
+passed-ahead-requires c = (here (goal.at.passed-ahead-requires c).In-Whole).fits
 
 -- how far it goes at once
 pub loop-kind-smaller : goal.loop-kind-smaller
-loop-kind-smaller c tie.Need-loop-smaller-2 invariant-loop decreases-loop loop-less-2 c =
-    let h = here c.before.before.before.before.before.before.before.before in
-    omega (arith, h.within, h.fits, c.passed.ensures.1)
+loop-kind-smaller c =
+    let h = here (goal.at.loop-kind-smaller c).In-Whole in
+    omega (arith, h.within, h.fits, c.passed-ahead.ensures.1)
 
 pub loop-kind-preserved : goal.loop-kind-preserved
-loop-kind-preserved c tie.Need-loop-preserved-2 invariant-loop decreases-loop loop-again-2 c = past-passed _ _ _ _ _ _ (here c.before.before.before.before.before.before.before.before).fits (behind c.before.before) c.passed.ensures
+loop-kind-preserved c = past-passed _ _ _ _ _ _ (here (goal.at.loop-kind-preserved c).In-Whole).fits (behind (goal.at.loop-kind-preserved c).In-Then) c.passed-ahead.ensures

@@ -10,10 +10,10 @@ use Rattle.streams.proofs.read_all.Goals as goal
 use Rattle.streams.proofs.read_all.Goals.{After-read_some-next, In-Bytes}
 
 pub loop-n-init : goal.loop-n-init
-loop-n-init c tie.Need-loop-init invariant-loop decreases-loop loop-holds c = (omega arith, refl)
+loop-n-init c = (omega arith, refl)
 
 pub read_some-next-requires : goal.read_some-next-requires
-read_some-next-requires c tie.Need-read-some-requires invariant-loop decreases-loop read-some-requires c = room c.before.before.loop.o c.before.before.loop.n (omega arith)
+read_some-next-requires c = room c.loop-n.o c.loop-n.n (omega arith)
 
 -- o keeps its length
 kept : (c : After-read_some-next) → length (put_mid c.loop-n.n (length c.loop-n.o - c.loop-n.n) c.loop-n.o c.read_Some.new.1.0) ≡ length c.loop-n.o
@@ -25,28 +25,28 @@ came c = let w = bytes-within c.in-Bytes.is c.read_Some.ensures in
     (w.0, within-rest c.loop-n.o c.loop-n.invariant.0 w.1)
 
 pub overflow_add-n : goal.overflow_add-n
-overflow_add-n c tie.Need-overflow-add-n invariant-loop decreases-loop add-n c = record { fits = omega (arith, (came c).1) }
+overflow_add-n c = record { fits = omega (arith, (came (goal.at.overflow_add-n c).In-Bytes).1) }
 
 pub loop-n-smaller : goal.loop-n-smaller
-loop-n-smaller c tie.Need-loop-smaller invariant-loop decreases-loop loop-less c = omega (arith, came c, kept c.before.before.before.before.before)
+loop-n-smaller c = omega (arith, came (goal.at.loop-n-smaller c).In-Bytes, kept (goal.at.loop-n-smaller c).After-read_some-next)
 
 pub loop-n-preserved : goal.loop-n-preserved
-loop-n-preserved c tie.Need-loop-preserved invariant-loop decreases-loop loop-again c = (omega (arith, (came c).1, kept c.before.before.before.before.before), kept c.before.before.before.before.before ∙ c.before.before.before.before.before.before.before.before.loop.invariant.1)
+loop-n-preserved c = (omega (arith, (came (goal.at.loop-n-preserved c).In-Bytes).1, kept (goal.at.loop-n-preserved c).After-read_some-next), kept (goal.at.loop-n-preserved c).After-read_some-next ∙ c.loop-n.invariant.1)
 
 pub shape_of-o-in-End : goal.shape_of-o-in-End
-shape_of-o-in-End c tie.Need-same-length invariant-loop decreases-loop same_length c = kept c.before.before.before.before ∙ c.before.before.before.before.before.before.before.loop.invariant.1
+shape_of-o-in-End c = kept (goal.at.shape_of-o-in-End c).After-read_some-next ∙ c.loop-n.invariant.1
 
 pub returns-in-End : goal.returns-in-End
-returns-in-End c tie.Need-returns invariant-loop decreases-loop returns c = omega (arith, kept c.before.before.before.before, c.before.before.before.before.before.before.before.loop.invariant.0)
+returns-in-End c = omega (arith, kept (goal.at.returns-in-End c).After-read_some-next, c.loop-n.invariant.0)
 
 pub shape_of-o-in-Failed : goal.shape_of-o-in-Failed
-shape_of-o-in-Failed c tie.Need-same-length-2 invariant-loop decreases-loop same-length-2 c = kept c.before.before.before.before ∙ c.before.before.before.before.before.before.before.loop.invariant.1
+shape_of-o-in-Failed c = kept (goal.at.shape_of-o-in-Failed c).After-read_some-next ∙ c.loop-n.invariant.1
 
 pub returns-in-Failed : goal.returns-in-Failed
-returns-in-Failed c tie.Need-returns-2 invariant-loop decreases-loop returns-2 c = tt
+returns-in-Failed c = tt
 
 pub shape_of-o : goal.shape_of-o
-shape_of-o c tie.Need-same-length-3 invariant-loop decreases-loop same-length-3 c = c.before.loop.invariant.1
+shape_of-o c = c.loop-n.invariant.1
 
 pub returns : goal.returns
-returns c tie.Need-returns-3 invariant-loop decreases-loop returns-3 c = c.before.loop.invariant.0
+returns c = c.loop-n.invariant.0

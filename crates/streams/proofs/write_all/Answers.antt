@@ -12,13 +12,13 @@ taken : (c : In-Moved) → c.loop-turns.n + c.in-Moved.k ≤ length c.args.s.now
 taken c = within-rest c.args.s.now c.loop-turns.invariant (moved-within c.in-Moved.is c.given-call.ensures)
 
 pub overflow_add-n : goal.overflow_add-n
-overflow_add-n c tie.Need-overflow-add-n invariant-loop decreases-loop add-n c = let h = taken c in record { fits = omega (arith, h) }
+overflow_add-n c = let h = taken (goal.at.overflow_add-n c).In-Moved in record { fits = omega (arith, h) }
 
 pub loop-turns-preserved-in-Moved : goal.loop-turns-preserved-in-Moved
-loop-turns-preserved-in-Moved c tie.Need-loop-preserved invariant-loop decreases-loop loop-again c = taken c
+loop-turns-preserved-in-Moved c = taken (goal.at.loop-turns-preserved-in-Moved c).In-Moved
 
 pub returns-then-n-s-2 : goal.returns-then-n-s-2
-returns-then-n-s-2 c tie.Need-returns invariant-loop decreases-loop returns c = tt
+returns-then-n-s-2 c = tt
 
 pub returns : goal.returns
-returns c tie.Need-returns-2 invariant-loop decreases-loop returns-2 c = tt
+returns c = tt

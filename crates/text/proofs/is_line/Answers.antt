@@ -6,14 +6,13 @@ use Rattle.text.proofs.Bytes.{so-far-turn, so-far-end}
 use Rattle.text.proofs.is_line.Goals as goal
 
 pub loop-i-init : goal.loop-i-init
-loop-i-init c tie.Need-loop-init invariant-loop decreases-loop loop-holds c = (omega arith, refl)
+loop-i-init c = (omega arith, refl)
 
 pub loop-i-preserved : goal.loop-i-preserved
-loop-i-preserved c tie.Need-loop-preserved invariant-loop decreases-loop loop-again c =
-    let before = c.before.before.before.before in
-    let s = before.before.before.args.s.now in
-    let turned = so-far-turn is_line_byte 94 s before.loop.highest before.loop.i c.before.line-rank.result (omega arith) c.before.line-rank.ensures before.loop.invariant.1 in
-    (omega arith, rw c.greater.ensures turned)
+loop-i-preserved c =
+    let s = c.args.s.now in
+    let turned = so-far-turn is_line_byte 94 s c.loop-i.highest c.loop-i.i c.line_rank.result (omega arith) c.line_rank.ensures c.loop-i.invariant.1 in
+    (omega arith, rw c.greater-highest.ensures turned)
 
 pub returns : goal.returns
-returns c tie.Need-returns invariant-loop decreases-loop returns c = so-far-end is_line_byte 94 c.before.before.before.args.s.now c.before.loop.highest c.before.loop.i (omega arith) c.before.loop.invariant.1
+returns c = so-far-end is_line_byte 94 c.args.s.now c.loop-i.highest c.loop-i.i (omega arith) c.loop-i.invariant.1

@@ -14,11 +14,11 @@ both c =
     text-within c.args.c first.result second.result (omega arith) first.ensures (omega arith) second.ensures
 
 pub returns-then-printable-control : goal.returns-then-printable-control
-returns-then-printable-control c tie.Need-returns returns c =
-    let lower = first-lower c.before.before.before.wrapping-sub-u8.result c.before.wrapping-sub-u82.result c.before.before.greater.result c.before.before.greater.ensures c.if1.true in
-    ap (λ (rank c ℕ). leb rank 2) lower ∙ both c.before
+returns-then-printable-control c =
+    let lower = first-lower c.wrapping_sub_u8-above.result c.wrapping_sub_u8-control.result c.greater-printable.result c.greater-printable.ensures c.if-printable-control.true in
+    ap (λ (rank : ℕ). leb rank 2) lower ∙ both (goal.at.returns-then-printable-control c).After-wrapping_sub_u8-control
 
 pub returns-else-printable-control : goal.returns-else-printable-control
-returns-else-printable-control c tie.Need-returns-2 returns-2 c =
-    let lower = second-lower c.before.before.before.wrapping-sub-u8.result c.before.wrapping-sub-u82.result c.before.before.greater.result c.before.before.greater.ensures c.if1.false in
-    ap (λ (rank c ℕ). leb rank 2) lower ∙ both c.before
+returns-else-printable-control c =
+    let lower = second-lower c.wrapping_sub_u8-above.result c.wrapping_sub_u8-control.result c.greater-printable.result c.greater-printable.ensures c.if-printable-control.false in
+    ap (λ (rank : ℕ). leb rank 2) lower ∙ both (goal.at.returns-else-printable-control c).After-wrapping_sub_u8-control

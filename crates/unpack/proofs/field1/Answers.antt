@@ -7,21 +7,15 @@ use Rattle.unpack.proofs.field1.Goals as goal
 
 pub copy1-requires : goal.copy1-requires
 unfolding total
-copy1-requires c tie.Need-copy1-requires unfolding total copy1-requires c =
-    let has = c.before.before in
-    omega (arith, block_needs has.before.before.before.requires.2 (rw (← has.has.ensures, c.before.if1.true)))
+copy1-requires c =
+    omega (arith, block_needs c.requires.2 (rw (← c.has.ensures, c.if-has.true)))
 
 pub returns-then-has : goal.returns-then-has
 unfolding total
-returns-then-has c tie.Need-returns unfolding total returns c =
-    let copy = c.before.before in
-    let test = copy.before.before in
-    let has = test.before in
-    block has.before.before.before.requires.2 (rw (← has.has.ensures, test.if1.true)) copy.copy1.ensures
+returns-then-has c =
+    block c.requires.2 (rw (← c.has.ensures, c.if-has.true)) c.copy1.ensures
 
 pub returns-else-has : goal.returns-else-has
 unfolding total
-returns-else-has c tie.Need-returns-2 unfolding total returns-2 c =
-    let clear = c.before.before in
-    let test = clear.before.before in
-    blank (rw (← test.before.has.ensures, test.if1.false)) clear.clear1.ensures
+returns-else-has c =
+    blank (rw (← c.has.ensures, c.if-has.false)) c.clear1.ensures

@@ -6,10 +6,5 @@ use Rattle.unpack_dwell.proofs.d15_to_19.Goals as goal
 
 pub returns : goal.returns
 unfolding total
-returns c tie.Need-returns unfolding total returns c =
-    let d19 = c.before.before in
-    let d18 = d19.before.before.before.before in
-    let d17 = d18.before.before.before.before in
-    let d16 = d17.before.before.before.before in
-    let d15 = d16.before.before.before.before in
-    onward (onward (onward (onward d15.field2.ensures d16.field4.ensures) d17.field1.ensures) d18.field12.ensures) d19.field22.ensures
+returns c =
+    onward (onward (onward (onward c.field2-a.ensures c.field4-b.ensures) c.field1-c.ensures) c.field1-d.ensures) c.field2.ensures

@@ -6,9 +6,5 @@ use Rattle.unpack_dwell.proofs.d20_to_23.Goals as goal
 
 pub returns : goal.returns
 unfolding total
-returns c tie.Need-returns unfolding total returns c =
-    let d23 = c.before.before in
-    let d22 = d23.before.before.before.before in
-    let d21 = d22.before.before.before.before in
-    let d20 = d21.before.before.before.before in
-    onward (onward (onward d20.field2.ensures d21.field22.ensures) d22.field23.ensures) d23.field24.ensures
+returns c =
+    onward (onward (onward c.field2-a.ensures c.field2-b.ensures) c.field2-c.ensures) c.field2.ensures

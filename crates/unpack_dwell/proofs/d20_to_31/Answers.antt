@@ -6,8 +6,5 @@ use Rattle.unpack_dwell.proofs.d20_to_31.Goals as goal
 
 pub returns : goal.returns
 unfolding total
-returns c tie.Need-returns unfolding total returns c =
-    let d28-to-31 = c.before.before in
-    let d24-to-27 = d28-to-31.before.before.before.before in
-    let d20-to-23 = d24-to-27.before.before.before.before in
-    onward (onward d20-to-23.d20-to-23.ensures d24-to-27.d24-to-27.ensures) d28-to-31.d28-to-31.ensures
+returns c =
+    onward (onward c.d20_to_23-a.ensures c.d24_to_27-b.ensures) c.d28_to_31.ensures

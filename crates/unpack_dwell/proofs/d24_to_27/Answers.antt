@@ -8,11 +8,10 @@ use Rattle.unpack_dwell.proofs.d24_to_27.Goals as goal
 
 pub copy12-requires : goal.copy12-requires
 unfolding total
-copy12-requires c tie.Need-copy12-requires unfolding total copy12-requires c = let pre = c.before.before.before.requires in omega (arith, block_needs pre.1 (all-24-to-27 _ pre.0))
+copy12-requires c = let pre = c.requires in omega (arith, block_needs pre.1 (all-24-to-27 _ pre.0))
 
 pub returns : goal.returns
 unfolding total
-returns c tie.Need-returns unfolding total returns c =
-    let copy = c.before.before in
-    let pre = copy.before.before.before.before.requires in
-    block pre.1 (all-24-to-27 _ pre.0) copy.copy12.ensures
+returns c =
+    let pre = c.requires in
+    block pre.1 (all-24-to-27 _ pre.0) c.copy12.ensures

@@ -6,9 +6,5 @@ use Rattle.unpack_dwell.proofs.d28_to_31.Goals as goal
 
 pub returns : goal.returns
 unfolding total
-returns c tie.Need-returns unfolding total returns c =
-    let d31 = c.before.before in
-    let d30 = d31.before.before.before.before in
-    let d29 = d30.before.before.before.before in
-    let d28 = d29.before.before.before.before in
-    onward (onward (onward d28.field2.ensures d29.field22.ensures) d30.field23.ensures) d31.field1.ensures
+returns c =
+    onward (onward (onward c.field2-a.ensures c.field2-b.ensures) c.field2-c.ensures) c.field1.ensures

@@ -8,11 +8,10 @@ use Rattle.unpack_dwell.proofs.d2_to_9.Goals as goal
 
 pub copy23-requires : goal.copy23-requires
 unfolding total
-copy23-requires c tie.Need-copy23-requires unfolding total copy23-requires c = let pre = c.before.before.before.requires in omega (arith, block_needs pre.1 (all-2-to-9 _ pre.0))
+copy23-requires c = let pre = c.requires in omega (arith, block_needs pre.1 (all-2-to-9 _ pre.0))
 
 pub returns : goal.returns
 unfolding total
-returns c tie.Need-returns unfolding total returns c =
-    let copy = c.before.before in
-    let pre = copy.before.before.before.before.requires in
-    block pre.1 (all-2-to-9 _ pre.0) copy.copy23.ensures
+returns c =
+    let pre = c.requires in
+    block pre.1 (all-2-to-9 _ pre.0) c.copy23.ensures

@@ -6,7 +6,5 @@ use Rattle.unpack_dwell.proofs.dwell_fields.Goals as goal
 
 pub returns : goal.returns
 unfolding total
-returns c tie.Need-returns unfolding total returns c =
-    let d20-to-31 = c.before.before in
-    let d2-to-19 = d20-to-31.before.before.before.before in
-    onward d2-to-19.d2-to-19.ensures d20-to-31.d20-to-31.ensures
+returns c =
+    onward c.d2_to_19-a.ensures c.d20_to_31.ensures

@@ -19,19 +19,13 @@ start c =
 
 pub overflow_add-q-5 : goal.overflow_add-q-5
 unfolding total
-overflow_add-q-5 c tie.Need-overflow-add-field2 unfolding total add-field2 c = let s = start c in omega (arith, s.good, s.pre)
+overflow_add-q-5 c = let s = start c in omega (arith, s.good, s.pre)
 
 pub field2-requires : goal.field2-requires
 unfolding announced_length total
-field2-requires c tie.Need-field2-requires unfolding announced_length total field2-requires c = let pre = (start c).requires in search rules
+field2-requires c = let pre = (start c).requires in search rules
 
 pub returns : goal.returns
 unfolding total
-returns c tie.Need-returns unfolding total returns c =
-    let h19 = c.before.before in
-    let h18 = h19.before.before.before.before in
-    let h17 = h18.before.before.before.before in
-    let h16 = h17.before.before.before.before in
-    let h15 = h16.before.before.before.before in
-    let h14 = h15.before.before.before.before in
-    onward (onward (onward (onward (onward h14.field4.ensures h15.field42.ensures) h16.field1.ensures) h17.field12.ensures) h18.field13.ensures) h19.field2.ensures
+returns c =
+    onward (onward (onward (onward (onward c.field4-h15.ensures c.field4-h16.ensures) c.field1-h17.ensures) c.field1-h18.ensures) c.field1-h19.ensures) c.field2.ensures

@@ -19,19 +19,13 @@ start c =
 
 pub overflow_add-q-5 : goal.overflow_add-q-5
 unfolding total
-overflow_add-q-5 c tie.Need-overflow-add-field4-3 unfolding total add-field4-3 c = let s = start c in omega (arith, s.good, s.pre)
+overflow_add-q-5 c = let s = start c in omega (arith, s.good, s.pre)
 
 pub field4-requires : goal.field4-requires
 unfolding announced_length total
-field4-requires c tie.Need-field4-requires-3 unfolding announced_length total field4-requires-3 c = let pre = (start c).requires in search rules
+field4-requires c = let pre = (start c).requires in search rules
 
 pub returns : goal.returns
 unfolding total
-returns c tie.Need-returns unfolding total returns c =
-    let h31 = c.before.before in
-    let h30 = h31.before.before.before.before in
-    let h29 = h30.before.before.before.before in
-    let h28 = h29.before.before.before.before in
-    let h27 = h28.before.before.before.before in
-    let h26 = h27.before.before.before.before in
-    onward (onward (onward (onward (onward h26.field1.ensures h27.field12.ensures) h28.field4.ensures) h29.field13.ensures) h30.field42.ensures) h31.field43.ensures
+returns c =
+    onward (onward (onward (onward (onward c.field1-h27.ensures c.field1-h28.ensures) c.field4-h29.ensures) c.field1-h30.ensures) c.field4-h31.ensures) c.field4.ensures

@@ -19,19 +19,13 @@ start c =
 
 pub overflow_add-q-5 : goal.overflow_add-q-5
 unfolding total
-overflow_add-q-5 c tie.Need-overflow-add-field4 unfolding total add-field4 c = let s = start c in omega (arith, s.good, s.pre)
+overflow_add-q-5 c = let s = start c in omega (arith, s.good, s.pre)
 
 pub field4-requires : goal.field4-requires
 unfolding announced_length total
-field4-requires c tie.Need-field4-requires unfolding announced_length total field4-requires c = let pre = (start c).requires in search rules
+field4-requires c = let pre = (start c).requires in search rules
 
 pub returns : goal.returns
 unfolding total
-returns c tie.Need-returns unfolding total returns c =
-    let h13 = c.before.before in
-    let h12 = h13.before.before.before.before in
-    let h11 = h12.before.before.before.before in
-    let h10 = h11.before.before.before.before in
-    let h9 = h10.before.before.before.before in
-    let h8 = h9.before.before.before.before in
-    onward (onward (onward (onward (onward h8.field2.ensures h9.field1.ensures) h10.field12.ensures) h11.field22.ensures) h12.field23.ensures) h13.field4.ensures
+returns c =
+    onward (onward (onward (onward (onward c.field2-h9.ensures c.field1-h10.ensures) c.field1-h11.ensures) c.field2-h12.ensures) c.field2-h13.ensures) c.field4.ensures

@@ -6,7 +6,5 @@ use Rattle.unpack_target.proofs.d32_16_and_17.Goals as goal
 
 pub returns : goal.returns
 unfolding total
-returns c tie.Need-returns unfolding total returns c =
-    let d32-17 = c.before.before in
-    let d32-16 = d32-17.before.before.before.before in
-    onward d32-16.field1.ensures d32-17.field4.ensures
+returns c =
+    onward c.field1-a.ensures c.field4.ensures

@@ -10,33 +10,23 @@ use Rattle.unpack_target.proofs.d32_6_to_10.Goals as goal
 -- each field of two bytes goes onto zeros: those of the start, of which the fields before it leave the ones behind them
 pub field2_onto_zeros-a-requires : goal.field2_onto_zeros-a-requires
 unfolding announced_length total
-field2_onto_zeros-a-requires c tie.Need-field2-onto-zeros-requires unfolding announced_length total field2-onto-zeros-requires c =
-    let zeros = clear-front 2 (omega arith) c.before.before.before.requires.1 in
+field2_onto_zeros-a-requires c =
+    let zeros = clear-front 2 (omega arith) c.requires.1 in
     search rules
 
 pub field2_onto_zeros-b-requires : goal.field2_onto_zeros-b-requires
 unfolding announced_length total
-field2_onto_zeros-b-requires c tie.Need-field2-onto-zeros-requires-2 unfolding announced_length total field2-onto-zeros-requires-2 c =
-    let d32-6 = c.before.before.before in
-    let start = d32-6.before.before.before.before in
-    let zeros = clear_behind 2 (omega arith) start.requires.1 d32-6.field2-onto-zeros.ensures in
+field2_onto_zeros-b-requires c =
+    let zeros = clear_behind 2 (omega arith) c.requires.1 c.field2_onto_zeros-a.ensures in
     search rules
 
 pub field2_onto_zeros-c-requires : goal.field2_onto_zeros-c-requires
 unfolding announced_length total
-field2_onto_zeros-c-requires c tie.Need-field2-onto-zeros-requires-3 unfolding announced_length total field2-onto-zeros-requires-3 c =
-    let d32-7 = c.before.before.before in
-    let d32-6 = d32-7.before.before.before.before in
-    let start = d32-6.before.before.before.before in
-    let zeros = clear_behind 2 (omega arith) start.requires.1 (onward d32-6.field2-onto-zeros.ensures d32-7.field2-onto-zeros2.ensures) in
+field2_onto_zeros-c-requires c =
+    let zeros = clear_behind 2 (omega arith) c.requires.1 (onward c.field2_onto_zeros-a.ensures c.field2_onto_zeros-b.ensures) in
     search rules
 
 pub returns : goal.returns
 unfolding total
-returns c tie.Need-returns unfolding total returns c =
-    let d32-10 = c.before.before in
-    let d32-9 = d32-10.before.before.before.before in
-    let d32-8 = d32-9.before.before.before.before in
-    let d32-7 = d32-8.before.before.before.before in
-    let d32-6 = d32-7.before.before.before.before in
-    onward (onward (onward (onward d32-6.field2-onto-zeros.ensures d32-7.field2-onto-zeros2.ensures) d32-8.field2-onto-zeros3.ensures) d32-9.field1.ensures) d32-10.field12.ensures
+returns c =
+    onward (onward (onward (onward c.field2_onto_zeros-a.ensures c.field2_onto_zeros-b.ensures) c.field2_onto_zeros-c.ensures) c.field1-d.ensures) c.field1.ensures

@@ -6,10 +6,5 @@ use Rattle.unpack_target.proofs.target_fields.Goals as goal
 
 pub returns : goal.returns
 unfolding total
-returns c tie.Need-returns unfolding total returns c =
-    let d32-18 = c.before.before in
-    let behind = d32-18.before.before.before.before in
-    let deltas = behind.before.before.before.before in
-    let places = deltas.before.before.before.before in
-    let d32-1 = places.before.before.before.before in
-    onward (onward (onward (onward d32-1.field2.ensures places.places.ensures) deltas.deltas.ensures) behind.behind.ensures) d32-18.field1.ensures
+returns c =
+    onward (onward (onward (onward c.field2-a.ensures c.places-b.ensures) c.deltas-c.ensures) c.behind-d.ensures) c.field1.ensures

@@ -6,7 +6,7 @@ use Rattle.vectors.proofs.Spellings.{hex-low, hex-high}
 use Rattle.vectors.proofs.hex_digit.Goals as goal
 
 pub returns-then-d-lt10 : goal.returns-then-d-lt10
-returns-then-d-lt10 c tie.Need-returns returns c = sym (hex-low c.before.args.d (omega arith))
+returns-then-d-lt10 c = sym (hex-low c.args.d (omega arith))
 
 pub returns-else-d-lt10 : goal.returns-else-d-lt10
-returns-else-d-lt10 c tie.Need-returns-2 returns-2 c = sym (hex-high c.before.args.d (omega arith))
+returns-else-d-lt10 c = sym (hex-high c.args.d (omega arith))

@@ -7,10 +7,10 @@ use Rattle.vectors.proofs.Spellings.{colon-at, colon-short}
 use Rattle.vectors.proofs.is_colon.Goals as goal
 
 pub returns-then-s-at-lt2 : goal.returns-then-s-at-lt2
-returns-then-s-at-lt2 c tie.Need-returns returns c = let a = c.before.args in sym (colon-short a.s.now a.at (omega arith))
+returns-then-s-at-lt2 c = let a = c.args in sym (colon-short a.s.now a.at (omega arith))
 
 pub returns-then-s-at-eq58 : goal.returns-then-s-at-eq58
-returns-then-s-at-eq58 c tie.Need-returns-2 returns-2 c = let a = c.before.before.before.before.args in rw (colon-at a.s.now a.at, eq-eqb _ 58 c.before.if2.true)
+returns-then-s-at-eq58 c = let a = c.args in rw (colon-at a.s.now a.at, eq-eqb _ 58 c.if-s-at-eq58.true)
 
 pub returns-else-s-at-eq58 : goal.returns-else-s-at-eq58
-returns-else-s-at-eq58 c tie.Need-returns-3 returns-3 c = let a = c.before.before.before.args in rw (colon-at a.s.now a.at, ne_eqb _ 58 c.if2.false)
+returns-else-s-at-eq58 c = let a = c.args in rw (colon-at a.s.now a.at, ne_eqb _ 58 c.if-s-at-eq58.false)

@@ -6,8 +6,8 @@ use Rattle.vectors.proofs.is_digit.Goals as goal
 
 pub returns-then-c-ge48 : goal.returns-then-c-ge48
 unfolding is_digit
-returns-then-c-ge48 c tie.Need-returns unfolding is_digit returns c = rw (le-leb 48 c.before.args.c c.if1.true)
+returns-then-c-ge48 c = rw (le-leb 48 c.args.c c.if-c-ge48.true)
 
 pub returns-else-c-ge48 : goal.returns-else-c-ge48
 unfolding is_digit
-returns-else-c-ge48 c tie.Need-returns-2 unfolding is_digit returns-2 c = rw (lt-leb 48 c.before.args.c c.if1.false)
+returns-else-c-ge48 c = rw (lt-leb 48 c.args.c c.if-c-ge48.false)

@@ -10,21 +10,21 @@ use Rattle.vectors.proofs.Spellings.{hex-each, each_next, each-fails, each-end}
 use Rattle.vectors.proofs.is_hex.Goals as goal
 
 pub loop-i-init : goal.loop-i-init
-loop-i-init c tie.Need-loop-init invariant-loop decreases-loop loop-holds c = (omega arith, refl)
+loop-i-init c = (omega arith, refl)
 
 pub returns-then-nibble-eq16 : goal.returns-then-nibble-eq16
-returns-then-nibble-eq16 c tie.Need-returns invariant-loop decreases-loop returns c =
-    let s = c.before.before.before.before.before.before.args.s.now in
-    let l = c.before.before.before.before.loop in
+returns-then-nibble-eq16 c =
+    let s = c.args.s.now in
+    let l = c.loop-i in
     sym (each-fails hex-each s l.i (omega arith) (le-ltb (nibble (get_or s l.i 0)) 16 (omega arith))) ∙ l.invariant.1
 
 pub loop-i-preserved : goal.loop-i-preserved
-loop-i-preserved c tie.Need-loop-preserved invariant-loop decreases-loop loop-again c =
-    let s = c.before.before.before.before.before.before.args.s.now in
-    let l = c.before.before.before.before.loop in
+loop-i-preserved c =
+    let s = c.args.s.now in
+    let l = c.loop-i in
     (omega arith, each_next hex-each s l.i (omega arith) (lt-ltb (nibble (get_or s l.i 0)) 16 (omega arith)) ∙ l.invariant.1)
 
 pub returns : goal.returns
-returns c tie.Need-returns-2 invariant-loop decreases-loop returns-2 c =
-    let l = c.before.loop in
-    sym (each-end hex-each c.before.before.before.args.s.now l.i (omega arith)) ∙ l.invariant.1
+returns c =
+    let l = c.loop-i in
+    sym (each-end hex-each c.args.s.now l.i (omega arith)) ∙ l.invariant.1

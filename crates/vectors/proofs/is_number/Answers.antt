@@ -9,21 +9,21 @@ use Rattle.vectors.proofs.Spellings.{digits-each, each_next, each-fails, each-en
 use Rattle.vectors.proofs.is_number.Goals as goal
 
 pub loop-i-init : goal.loop-i-init
-loop-i-init c tie.Need-loop-init invariant-loop decreases-loop loop-holds c = (omega arith, refl)
+loop-i-init c = (omega arith, refl)
 
 pub returns-then-not-is_digit : goal.returns-then-not-is_digit
 unfolding is_number
-returns-then-not-is_digit c tie.Need-returns invariant-loop decreases-loop unfolding is_number returns c =
-    let l = c.before.before.before.before.loop in
-    rw (← l.invariant.1, each-fails digits-each c.before.before.before.before.before.before.args.s.now l.i (omega arith) (sym c.before.is_digit.ensures ∙ not-true _ c.if1.true))
+returns-then-not-is_digit c =
+    let l = c.loop-i in
+    rw (← l.invariant.1, each-fails digits-each c.args.s.now l.i (omega arith) (sym c.is_digit.ensures ∙ not-true _ c.if-not-is_digit.true-raw))
 
 pub loop-i-preserved : goal.loop-i-preserved
-loop-i-preserved c tie.Need-loop-preserved invariant-loop decreases-loop loop-again c =
-    let l = c.before.before.before.before.loop in
-    (omega arith, each_next digits-each c.before.before.before.before.before.before.args.s.now l.i (omega arith) (sym c.before.is_digit.ensures ∙ not-false _ c.if1.false) ∙ l.invariant.1)
+loop-i-preserved c =
+    let l = c.loop-i in
+    (omega arith, each_next digits-each c.args.s.now l.i (omega arith) (sym c.is_digit.ensures ∙ not-false _ c.if-not-is_digit.false-raw) ∙ l.invariant.1)
 
 pub returns : goal.returns
 unfolding is_number
-returns c tie.Need-returns-2 invariant-loop decreases-loop unfolding is_number returns-2 c =
-    let l = c.before.loop in
-    rw (← l.invariant.1, each-end digits-each c.before.before.before.args.s.now l.i (omega arith))
+returns c =
+    let l = c.loop-i in
+    rw (← l.invariant.1, each-end digits-each c.args.s.now l.i (omega arith))

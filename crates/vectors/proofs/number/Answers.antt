@@ -9,13 +9,13 @@ use Rattle.vectors.proofs.Spellings.{spelt-turn, spelt-end}
 use Rattle.vectors.proofs.number.Goals as goal
 
 pub loop-i-init : goal.loop-i-init
-loop-i-init c tie.Need-loop-init invariant-loop decreases-loop loop-holds c = (omega arith, omega arith, refl)
+loop-i-init c = (omega arith, omega arith, refl)
 
 pub loop-i-preserved : goal.loop-i-preserved
-loop-i-preserved c tie.Need-loop-preserved invariant-loop decreases-loop loop-again c =
-    let s = c.before.before.before.before.before.args.s.now in
-    let l = c.before.before.before.loop in
-    (omega arith, omega arith, ap (spelt (drop (l.i + 1) s)) c.with-digit.ensures.0 ∙ spelt-turn s l.i l.n (omega arith) ∙ l.invariant.2)
+loop-i-preserved c =
+    let s = c.args.s.now in
+    let l = c.loop-i in
+    (omega arith, omega arith, ap (spelt (drop (l.i + 1) s)) c.with_digit-n.ensures.0 ∙ spelt-turn s l.i l.n (omega arith) ∙ l.invariant.2)
 
 pub returns : goal.returns
-returns c tie.Need-returns invariant-loop decreases-loop returns c = let l = c.before.loop in sym (spelt-end c.before.before.before.args.s.now l.i l.n (omega arith)) ∙ l.invariant.2
+returns c = let l = c.loop-i in sym (spelt-end c.args.s.now l.i l.n (omega arith)) ∙ l.invariant.2

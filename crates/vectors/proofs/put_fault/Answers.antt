@@ -8,15 +8,15 @@ use Rattle.vectors.proofs.put_fault.Goals as goal
 
 pub shape_of-o-in-Digit : goal.shape_of-o-in-Digit
 unfolding fault_text
-shape_of-o-in-Digit c tie.Need-returns unfolding fault_text returns c = fault-laid _ _ c.enum_told.given.1 (omega arith, refl)
+shape_of-o-in-Digit c = fault-laid _ _ c.enum_told-1.given.1 (omega arith, refl)
 
 pub shape_of-o-in-Half : goal.shape_of-o-in-Half
 unfolding fault_text
-shape_of-o-in-Half c tie.Need-returns-2 unfolding fault_text returns-2 c = fault-laid _ _ c.before.before.before.before.before.enum-told2.given.1 c.before.before.put_word.ensures
+shape_of-o-in-Half c = fault-laid _ _ c.enum_told-in-Form-1.given.1 c.put_word.ensures
 
 pub shape_of-o-in-Length : goal.shape_of-o-in-Length
 unfolding fault_text
-shape_of-o-in-Length c tie.Need-returns-3 unfolding fault_text returns-3 c = fault-laid _ _ c.before.before.before.before.before.enum-told3.given.1 c.before.before.put-word2.ensures
+shape_of-o-in-Length c = fault-laid _ _ c.enum_told-in-Number-1.given.1 c.put_word-in-Number.ensures
 
 returns-4 : tie.Need-returns-4
 unfolding fault_text

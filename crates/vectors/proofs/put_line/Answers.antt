@@ -25,22 +25,22 @@ room c =
     omega (arith, kept c, c.put_hex-r.ensures.0, e.0.1, n.0, c.requires)
 
 pub put_hex-r-requires : goal.put_hex-r-requires
-put_hex-r-requires c tie.Need-put-hex-requires put-hex-requires c =
-    let n = c.before.before.before.before.before.before.before.put-name in
-    let e = c.before.before.before.put-answer in
-    rw (length-set, e.auto.0, n.auto.0) (omega (arith, e.ensures.0.1, n.ensures.0, c.before.before.before.before.before.before.before.before.before.before.before.before.requires))
+put_hex-r-requires c =
+    let n = c.put_name-p in
+    let e = c.put_answer-q in
+    rw (length-set, e.auto.0, n.auto.0) (omega (arith, e.ensures.0.1, n.ensures.0, c.requires))
 
 pub bounds-o-r : goal.bounds-o-r
-bounds-o-r c tie.Need-slice-write-o-2 slice-write-o-2 c = room c.before.before
+bounds-o-r c = room (goal.at.bounds-o-r c).After-put_hex-r
 
 pub shape_of-o : goal.shape_of-o
-shape_of-o c tie.Need-same-length same_length c = rw length-set (kept c.before.before)
+shape_of-o c = rw length-set (kept (goal.at.shape_of-o c).After-put_hex-r)
 
 pub returns : goal.returns
-returns c tie.Need-returns returns c =
-    let a = c.before.before.before.before.before.before.before.before.before.before.before.before.before.before.before.args in
-    let n = c.before.before.before.before.before.before.before.before.before.before.put-name.ensures in
-    let e = c.before.before.before.before.before.before.put-answer.ensures in
-    let f = c.before.before.put-hex.ensures in
-    let h = line-laid a.name.now a.o.now a.sheet.now a.a (label-laid a.name.now a.o.now n.0 n.1) (e.0.0, e.1) (hex-laid a.sheet.now _ (c.before.before.before.before.before.before.put-answer.result + 1) f.0 f.1) in
-    ((h.0 ∙ zero-add _, rw length-set (omega (arith, room c.before.before))), h.1)
+returns c =
+    let a = c.args in
+    let n = c.put_name-p.ensures in
+    let e = c.put_answer-q.ensures in
+    let f = c.put_hex-r.ensures in
+    let h = line-laid a.name.now a.o.now a.sheet.now a.a (label-laid a.name.now a.o.now n.0 n.1) (e.0.0, e.1) (hex-laid a.sheet.now _ (c.put_answer-q.result + 1) f.0 f.1) in
+    ((h.0 ∙ zero-add _, rw length-set (omega (arith, room (goal.at.returns c).After-put_hex-r))), h.1)

@@ -6,10 +6,10 @@ use Rattle.vectors.proofs.Spellings.{name-laid}
 use Rattle.vectors.proofs.put_name.Goals as goal
 
 pub bounds-o-p-2 : goal.bounds-o-p-2
-bounds-o-p-2 c tie.Need-slice-write-o-2 slice-write-o-2 c = rw length-set (omega arith)
+bounds-o-p-2 c = rw length-set (omega arith)
 
 pub returns : goal.returns
-returns c tie.Need-returns returns c =
-    let a = c.before.before.before.before.before.before.args in
-    let h = name-laid a.name.now a.o.now {p = length a.name.now} (omega arith, c.before.before.copy-all.ensures) in
+returns c =
+    let a = c.args in
+    let h = name-laid a.name.now a.o.now {p = length a.name.now} (omega arith, c.copy_all.ensures) in
     (omega arith, h.1)

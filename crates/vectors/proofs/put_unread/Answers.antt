@@ -8,12 +8,12 @@ use Rattle.vectors.proofs.Spellings.{label-laid, unread-laid}
 use Rattle.vectors.proofs.put_unread.Goals as goal
 
 pub shape_of-o : goal.shape_of-o
-shape_of-o c tie.Need-same-length same_length c = rw length-set (c.before.before.put-fault.auto.0 ∙ c.before.before.before.before.before.before.put-name.auto.0)
+shape_of-o c = rw length-set (c.put_fault-q.auto.0 ∙ c.put_name-p.auto.0)
 
 pub returns : goal.returns
-returns c tie.Need-returns returns c =
-    let a = c.before.before.before.before.before.before.before.before.before.before.args in
-    let n = c.before.before.before.before.before.before.put-name.ensures in
-    let e = c.before.before.put-fault.ensures in
+returns c =
+    let a = c.args in
+    let n = c.put_name-p.ensures in
+    let e = c.put_fault-q.ensures in
     let h = unread-laid a.name.now a.o.now a.f (label-laid a.name.now a.o.now n.0 n.1) (e.0.0, e.1) in
-    ((h.0 ∙ zero-add _, rw length-set (omega (arith, c.before.before.put-fault.auto.0, c.before.before.before.before.before.before.put-name.auto.0))), h.1)
+    ((h.0 ∙ zero-add _, rw length-set (omega (arith, c.put_fault-q.auto.0, c.put_name-p.auto.0))), h.1)

@@ -3,14 +3,13 @@
 use mathlib.Core.Path.{refl, ap₂}
 use Prim.Native.Nat.{ℕ, ◌-◌, ◌+◌, ◌*◌, ◌<◌}
 use native.Mathlib.Omega.{arith}
-use lib.ListN.{length}
 use Rattle.vectors.specs.Vectors.{unhexed}
 use Rattle.vectors.proofs.Spellings.{nibble-below, pairs_start, pairs-turn, pairs_end}
 use Rattle.vectors.proofs.unhex.Goals as goal
 use Rattle.vectors.proofs.unhex.Goals.{After-nibble}
 
 pub loop-i-init : goal.loop-i-init
-loop-i-init c tie.Need-loop-init invariant-loop decreases-loop loop-holds c = (omega arith, refl, pairs_start _ _ _)
+loop-i-init c = (omega arith, refl, pairs_start _ _ _)
 
 -- the first digit of a pair is below 16
 first-digit : (c : After-nibble) → c.nibble.result < 16
@@ -18,28 +17,27 @@ first-digit c =
     omega (arith, nibble-below c.args.s.now (2 * c.loop-i.i) c.requires.0 (omega arith))
 
 pub overflow_mul-o : goal.overflow_mul-o
-overflow_mul-o c tie.Need-overflow-mul-o invariant-loop decreases-loop mul-o c = omega (arith, first-digit c)
+overflow_mul-o c = omega (arith, first-digit (goal.at.overflow_mul-o c).After-nibble)
 
 pub overflow_add-o : goal.overflow_add-o
-overflow_add-o c tie.Need-overflow-add-o invariant-loop decreases-loop add-o c =
-    let a = c.before.before.before.before.before.before.before.before in
-    omega (arith, first-digit c.before.before, nibble-below a.args.s.now (2 * c.before.before.before.before.before.loop.i + 1) a.requires.0 (omega arith))
+overflow_add-o c =
+    omega (arith, first-digit (goal.at.overflow_add-o c).After-nibble, nibble-below c.args.s.now (2 * c.loop-i.i + 1) c.requires.0 (omega arith))
 
 pub loop-i-preserved : goal.loop-i-preserved
-loop-i-preserved c tie.Need-loop-preserved invariant-loop decreases-loop loop-again c =
-    let a = c.before.before.before.before.before.before.before.before.args in
-    let l = c.before.before.before.before.before.loop in (
+loop-i-preserved c =
+    let a = c.args in
+    let l = c.loop-i in (
       omega arith,
       refl,
-      pairs-turn a.s.now a.o.now l.o _ l.i (omega arith) l.invariant.2 (ap₂ (λ (x y c ℕ). x * 16 + y) c.before.before.nibble.ensures.0 c.nibble2.ensures.0),
+      pairs-turn a.s.now a.o.now l.o _ l.i (omega arith) l.invariant.2 (ap₂ (λ (x y : ℕ). x * 16 + y) c.nibble.ensures.0 c.nibble-in-loop-i.ensures.0),
     )
 
 pub shape_of-o : goal.shape_of-o
-shape_of-o c tie.Need-same-length invariant-loop decreases-loop same_length c = c.before.loop.invariant.2.same
+shape_of-o c = c.loop-i.invariant.2.same
 
 pub returns : goal.returns
 unfolding unhexed
-returns c tie.Need-returns invariant-loop decreases-loop unfolding unhexed returns c =
-    let a = c.before.before.before.before.args in
-    let l = c.before.loop in
+returns c =
+    let a = c.args in
+    let l = c.loop-i in
     ((refl, omega (arith, l.invariant.2.same)), pairs_end a.s.now a.o.now l.o _ l.i (omega arith) l.invariant.2)

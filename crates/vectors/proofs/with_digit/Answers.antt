@@ -6,8 +6,8 @@ use Rattle.vectors.proofs.with_digit.Goals as goal
 
 pub returns-then-m-lt4294967296 : goal.returns-then-m-lt4294967296
 unfolding with_digit
-returns-then-m-lt4294967296 c tie.Need-returns unfolding with_digit returns c = omega arith
+returns-then-m-lt4294967296 c = omega arith
 
 pub returns-else-m-lt4294967296 : goal.returns-else-m-lt4294967296
 unfolding with_digit
-returns-else-m-lt4294967296 c tie.Need-returns-2 unfolding with_digit returns-2 c = omega arith
+returns-else-m-lt4294967296 c = omega arith

@@ -15,23 +15,20 @@ of-known : {w n : ℕ} (r : ℕ) (s : List ℕ) → w ≡ n → Spells n r (take
 of-known r s e h = rw e h
 
 pub returns-then-w-eq1 : goal.returns-then-w-eq1
-returns-then-w-eq1 c tie.Need-returns returns c =
-    let then = c.before.before in
-    let a = then.before.before.args in
-    of-known _ _ then.if1.true (byte-spelt _ a.at a.t.now (omega arith) c.wide.ensures.0 c.wide.ensures.1)
+returns-then-w-eq1 c =
+    let a = c.args in
+    of-known _ _ c.if-w-eq1.true (byte-spelt _ a.at a.t.now (omega arith) c.wide.ensures.0 c.wide.ensures.1)
 
 pub returns-then-w-eq2 : goal.returns-then-w-eq2
-returns-then-w-eq2 c tie.Need-returns-2 returns-2 c =
-    let first = c.before.before in
-    let then = first.before.before in
-    let a = then.before.before.before.args in
+returns-then-w-eq2 c =
+    let a = c.args in
     let t = a.t.now in
-    of-known _ _ then.if2.true
-    (two-spelt _ _ a.at t (byte-spelt _ a.at t (omega arith) first.wide2.ensures.0 first.wide2.ensures.1) (byte-spelt _ (a.at + 1) t (omega arith) c.wide3.ensures.0 c.wide3.ensures.1))
+    of-known _ _ c.if-w-eq2.true
+    (two-spelt _ _ a.at t (byte-spelt _ a.at t (omega arith) c.wide-then-w-eq2.ensures.0 c.wide-then-w-eq2.ensures.1) (byte-spelt _ (a.at + 1) t (omega arith) c.wide-then-w-eq2-2.ensures.0 c.wide-then-w-eq2-2.ensures.1))
 
 pub returns-else-w-eq2 : goal.returns-else-w-eq2
 unfolding pad
-returns-else-w-eq2 c tie.Need-returns-3 unfolding pad returns-3 c =
-    let a = c.before.before.before.args in
-    let none c a.w ≡ 0 = omega arith in
+returns-else-w-eq2 c =
+    let a = c.args in
+    let none : a.w ≡ 0 = omega arith in
     of-known 0 _ none (zeros-spelt 0)

@@ -4,8 +4,6 @@ use Rattle.words.proofs.Words.{stored}
 use Rattle.words.proofs.put8.Goals as goal
 
 pub returns : goal.returns
-returns c tie.Need-returns returns c =
-    let upper = c.before.before in
-    let lower = upper.before.before.before.before in
-    let a = lower.before.before.before.args in
-    stored 4 4 a.q a.v a.o.now lower.put4.ensures upper.put42.ensures
+returns c =
+    let a = c.args in
+    stored 4 4 a.q a.v a.o.now c.put4.ensures c.put4-2.ensures

@@ -9,11 +9,8 @@ use Rattle.words.proofs.Words.{stored}
 use Rattle.words.proofs.put_below_4.Goals as goal
 
 pub returns-else-n-lt2 : goal.returns-else-n-lt2
-returns-else-n-lt2 c tie.Need-returns-2 returns-2 c =
-    let upper = c.before.before in
-    let lower = upper.before.before.before.before in
-    let else = lower.before.before in
-    let a = else.before.before.args in
-    let all c 2 + (a.n - 2) ≡ a.n = omega (arith, else.if1.false) in
-    stored 2 (a.n - 2) a.q a.v a.o.now lower.put2.ensures upper.put-below-22.ensures
-    ∙ ap (λ (n c ℕ). sets a.o.now a.q (low n a.v)) all
+returns-else-n-lt2 c =
+    let a = c.args in
+    let all : 2 + (a.n - 2) ≡ a.n = omega (arith, c.if-n-lt2.false) in
+    stored 2 (a.n - 2) a.q a.v a.o.now c.put2.ensures c.put_below_2-else-n-lt2.ensures
+    ∙ ap (λ (n : ℕ). sets a.o.now a.q (low n a.v)) all

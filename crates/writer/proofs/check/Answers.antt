@@ -9,4 +9,4 @@ use Rattle.writer.proofs.check.Goals as goal
 
 pub returns : goal.returns
 unfolding check
-returns c tie.Need-returns unfolding check returns c = ap (λ (a c Answer). outcome a []) c.before.write-where-room.ensures.0
+returns c = ap (λ (a : Answer). outcome a []) c.write_where_room.ensures.0

@@ -6,31 +6,23 @@ use Rattle.writer.proofs.ReadingBack.{reread-refused, comparable, reread-not, re
 use Rattle.writer.proofs.read_back.Goals as goal
 
 pub is_sheet-requires : goal.is_sheet-requires
-is_sheet-requires c tie.Need-is-sheet-requires is-sheet-requires c =
-    let checked = c.before.before.before.before in
-    let s = checked.before.before.before in
-    comparable s.args.packet.now s.args.x.now s.requires _ checked.check.ensures _ _ _ _ c.before.before.segments.given.1 c.if1.true
+is_sheet-requires c =
+    comparable c.args.packet.now c.args.x.now c.requires _ c.check.ensures _ _ _ _ c.in-Accepted.is c.if-length-x.true
 
 pub returns-in-Refused : goal.returns-in-Refused
-returns-in-Refused c tie.Need-returns returns c =
-    let checked = c.before.before.before in
-    let s = checked.before.before.before in
+returns-in-Refused c =
     c.refused.ensures
-    ∙ reread-refused s.args.packet.now s.args.x.now s.requires _ checked.check.ensures _ _ _ c.before.enum_told.given.1
+    ∙ reread-refused c.args.packet.now c.args.x.now c.requires _ c.check.ensures _ _ _ c.in-Refused.is
 
 pub returns-then-is_sheet : goal.returns-then-is_sheet
-returns-then-is_sheet c tie.Need-returns-2 returns-2 c =
-    let checked = c.before.before.before.before.before.before in
-    let s = checked.before.before.before in
-    reread-same s.args.packet.now s.args.x.now s.requires _ checked.check.ensures _ _ _ _ c.before.before.before.before.segments.given.1 (sym c.before.is-sheet.ensures ∙ c.if2.true)
+returns-then-is_sheet c =
+    reread-same c.args.packet.now c.args.x.now c.requires _ c.check.ensures _ _ _ _ c.in-Accepted.is (sym c.is_sheet.ensures ∙ c.if-is_sheet.true)
 
 pub returns-else-length-x : goal.returns-else-length-x
-returns-else-length-x c tie.Need-returns-3 returns-3 c =
-    let checked = c.before.before.before.before.before in
-    let s = checked.before.before.before in
-    let answer = c.before.before.before.segments.given.1 in
-    c.refused2.ensures
+returns-else-length-x c =
+    let answer = c.in-Accepted.is in
+    c.refused-else-length-x.ensures
     ∙ ⊎_elim
-    (λ w. reread-not s.args.packet.now s.args.x.now s.requires _ checked.check.ensures _ _ _ _ answer (sym w.1.ensures ∙ w.2.left))
-    (λ w. reread-other s.args.packet.now s.args.x.now s.requires _ checked.check.ensures _ _ _ _ answer w.left)
-    c.before.if1.branch
+    (λ w. reread-not c.args.packet.now c.args.x.now c.requires _ c.check.ensures _ _ _ _ answer (sym w.1.ensures ∙ w.2.left))
+    (λ w. reread-other c.args.packet.now c.args.x.now c.requires _ c.check.ensures _ _ _ _ answer w.left)
+    c.else-length-x.branch

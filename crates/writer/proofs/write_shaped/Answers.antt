@@ -5,8 +5,7 @@ use Rattle.writer.proofs.WriterRows.{row-19-packet, settled-refused}
 use Rattle.writer.proofs.write_shaped.Goals as goal
 
 pub returns-then-n-gt-LONGEST_PACKET : goal.returns-then-n-gt-LONGEST_PACKET
-returns-then-n-gt-LONGEST_PACKET c tie.Need-returns returns c =
-    let s = c.before.before.before.before in
-    let x = s.args.x.now in
-    settled-refused x s.args.o.now _ 19 0 0 c.refused.ensures
-    (row-19-packet x s.requires.0 (omega (arith, s.requires.1, c.before.if1.true)))
+returns-then-n-gt-LONGEST_PACKET c =
+    let x = c.args.x.now in
+    settled-refused x c.args.o.now _ 19 0 0 c.refused.ensures
+    (row-19-packet x c.requires.0 (omega (arith, c.requires.1, c.if-n-gt-LONGEST_PACKET.true)))
