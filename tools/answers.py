@@ -124,8 +124,8 @@ class Turn:
         if not parts:
             return root, ("place", line[0] if line else None)
         step, rest = parts[0], parts[1:]
-        if step in ("args", "ranges", "requires", "pre", "type_inv", "type-inv", "lifetimes"):
-            word = {"pre": "requires", "type-inv": "type_inv"}.get(step, step)
+        if step in ("args", "ranges", "requires", "pre", "type_inv", "type-inv", "lifetimes", "well-formed"):
+            word = {"pre": "requires", "type-inv": "type_inv", "well-formed": "well_formed"}.get(step, step)
             return self.tail(f"{root}.{word}", word, rest)
         found = self.arm(whole, step, rest)
         if found:
@@ -145,7 +145,7 @@ class Turn:
         out = root
         last = kind
         for word in rest:
-            word = {"type-inv": "type_inv"}.get(word, word)
+            word = {"type-inv": "type_inv", "well-formed": "well_formed"}.get(word, word)
             if last in ("args", "ranges", "new", "auto", "initial"):
                 word = word.replace("-", "_") if last != "auto" else word
             if word == "inv":
@@ -294,7 +294,7 @@ def turned(crate, function, names, text):
                 for it in re.findall(r"(?m)^  (?:abbrev |pub )*(" + NAME + r")\s*:", p):
                     t.helpers[it] = place_of(m[2])
         elif name and name not in goal_of and name not in loop_of:
-            m = re.search(r"^(?:abbrev |unfoldable |pub )*" + re.escape(name) + r"\s*:\s*\((" + NAME + r") : (tie\." + NAME + "|" + NAME + r")", p, re.M)
+            m = re.search(r"^(?:abbrev |unfoldable |pub )*" + re.escape(name) + r"\s*:\s*(?:\((" + NAME + r") : )?(tie\." + NAME + "|" + NAME + r")", p, re.M)
             if m and place_of(m[2]):
                 t.helpers[name] = place_of(m[2])
     places = {plain(k): k for k in t.new_place}
