@@ -18,10 +18,10 @@ pub loop-i-init : goal.loop-i-init
 loop-i-init c = counted_start c.args.s.now
 
 pub offset_bounds-s-i : goal.offset_bounds-s-i
-offset_bounds-s-i c = scaled_Fits c.loop-i.i (length c.args.s.now) 4 (omega arith) c.well-formed.0.1
+offset_bounds-s-i c = scaled_Fits c.loop-i.i (length c.args.s.now) 4 (omega arith) c.well_formed.0.1
 
 pub offset_bounds-s-i-in-loop-i : goal.offset_bounds-s-i-in-loop-i
-offset_bounds-s-i-in-loop-i c = omega (arith, c.well-formed.0.1)
+offset_bounds-s-i-in-loop-i c = omega (arith, c.well_formed.0.1)
 
 pub is_among-requires : goal.is_among-requires
 is_among-requires c = tt

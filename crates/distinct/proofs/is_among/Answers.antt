@@ -17,7 +17,7 @@ pub loop-i-init : goal.loop-i-init
 loop-i-init c = (omega arith, refl)
 
 pub offset_bounds-s-i : goal.offset_bounds-s-i
-offset_bounds-s-i c = scaled_Fits c.loop-i.i (length c.args.s.now) 4 (omega arith) c.well-formed.1.0.1
+offset_bounds-s-i c = scaled_Fits c.loop-i.i (length c.args.s.now) 4 (omega arith) c.well_formed.1.0.1
 
 -- what was seen after the test
 seen-is : (c : Joined-x-s) → c.if-x-s.seen ≡ (c.loop-i.seen || eqb c.args.x (get_or c.args.s.now c.loop-i.i 0))

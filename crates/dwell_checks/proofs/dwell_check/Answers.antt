@@ -56,13 +56,13 @@ start_is c =
 
 -- the length that row 12 asks for
 size_is : (c : After-target_length-each) → let b = c.args.b.now in
-    start_of c + c.target_count-count.result * c.target_length-each.result ≡ 8 + announced_length (mask_of b) 2 dwell_widths + target_count b * target_length (mask_of b)
+    start_of (goal.at.After-target_length-each c).After-length_from_d24 + c.target_count-count.result * c.target_length-each.result ≡ 8 + announced_length (mask_of b) 2 dwell_widths + target_count b * target_length (mask_of b)
 size_is c =
     let each = c.target_length-each.ensures ∙ ap target_length (mask_is (goal.at.After-target_length-each c).After-get_u64-mask) in
     ap₂ (λ (m n : ℕ). m + n) (start_is (goal.at.After-target_length-each c).After-length_from_d24) (ap₂ (λ (m n : ℕ). m * n) c.target_count-count.ensures each)
 
 -- and that it fits
-size_fits : (c : After-target_length-each) → start_of c + c.target_count-count.result * c.target_length-each.result ≤ 8 + 78 + 65535 * 36
+size_fits : (c : After-target_length-each) → start_of (goal.at.After-target_length-each c).After-length_from_d24 + c.target_count-count.result * c.target_length-each.result ≤ 8 + 78 + 65535 * 36
 size_fits c =
     let b = c.args.b.now in
     omega (arith, size_is c, most (mask_of b) (target_count b) (omega (arith, c.target_count-count.ensures)))
@@ -135,7 +135,7 @@ plan_by-requires c =
     let m = c.get_u64-mask.result in
     let h = required-there (goal.at.plan_by-requires c).Else-fault-ne0 in
     let before = c.length_before_d24-at.ensures.0 in
-    let start : start_of c ≡ 8 + announced_length m 2 dwell_widths = omega (arith, before, c.length_from_d24.ensures.0, split-24 m h) in
+    let start : start_of (goal.at.plan_by-requires c).After-length_from_d24 ≡ 8 + announced_length m 2 dwell_widths = omega (arith, before, c.length_from_d24.ensures.0, split-24 m h) in
     ((mask_is (goal.at.plan_by-requires c).After-get_u64-mask, h, omega (arith, start)), ap (λ (k : ℕ). 8 + k) before, start, c.target_length-each.ensures, c.target_count-count.ensures)
 
 pub dwell_values-requires : goal.dwell_values-requires

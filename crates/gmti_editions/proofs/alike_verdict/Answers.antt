@@ -11,7 +11,7 @@ use Rattle.gmti_editions.specs.declared.Verdict.TheVariants.{Alike, Broken}
 use Rattle.gmti_editions.specs.Verdict.{alike_verdict}
 use Rattle.gmti_editions.proofs.Cases.{alike-refused, other-counts, same-counts}
 use Rattle.gmti_editions.proofs.alike_verdict.Goals as goal
-use Rattle.gmti_editions.proofs.alike_verdict.Goals.{After-is_alike}
+use Rattle.gmti_editions.proofs.alike_verdict.Goals.{After-is_alike, Start}
 
 -- the verdict that the contract names
 abbrev verdict_at : Start → Verdict
@@ -46,7 +46,7 @@ returns-in-Refused c =
     alike-refused x.l.now x.s x.d x.t x.n x.a x.older.now x.newer.now x.buffer.now a.0.0 a.0.1.0 a.0.1.1.0 a.1
 
 -- the verdict where the counts and the length are the same
-alike_is : (c : After-is_alike) → cond c.is_alike.result Alike Broken ≡ verdict_at c
+alike_is : (c : After-is_alike) → cond c.is_alike.result Alike Broken ≡ verdict_at (goal.at.After-is_alike c).Start
 alike_is c =
     let a = c.a-1.given in
     let x = c.args in

@@ -45,7 +45,7 @@ bounds-b-at c =
 
 pub overflow_add-at : goal.overflow_add-at
 overflow_add-at c =
-    omega (arith, h25-room c.args.mask c.args.b.now c.requires.0.1 c.args.at c.requires.1 c.requires.0.2, c.well-formed)
+    omega (arith, h25-room c.args.mask c.args.b.now c.requires.0.1 c.args.at c.requires.1 c.requires.0.2, c.well_formed)
 
 pub bounds-b-at-2 : goal.bounds-b-at-2
 bounds-b-at-2 c =

@@ -36,7 +36,7 @@ loop-i-init c =
 
 pub scatterer_record-requires : goal.scatterer_record-requires
 scatterer_record-requires c =
-    let s = start c in
+    let s = start (goal.at.scatterer_record-requires c).In-loop-i in
     let l = c.loop-i in
     let h = within (goal.at.scatterer_record-requires c).In-loop-i in
     (s.pre.0, search rules, search rules)
@@ -44,7 +44,7 @@ scatterer_record-requires c =
 pub loop-i-preserved : goal.loop-i-preserved
 unfolding total
 loop-i-preserved c =
-    let a = (start c).args in
+    let a = (start (goal.at.loop-i-preserved c).In-loop-i).args in
     let l = c.loop-i in (
       omega arith,
       omega arith,

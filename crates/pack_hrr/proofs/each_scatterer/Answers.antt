@@ -36,7 +36,7 @@ loop-i-init c =
 
 pub scatterer-requires : goal.scatterer-requires
 scatterer-requires c =
-    let s = start c in
+    let s = start (goal.at.scatterer-requires c).In-loop-i in
     let l = c.loop-i in
     let h = within (goal.at.scatterer-requires c).In-loop-i in
     (s.pre.0, search rules, search rules)
@@ -44,14 +44,14 @@ scatterer-requires c =
 pub loop-i-preserved : goal.loop-i-preserved
 unfolding total
 loop-i-preserved c =
-    let a = (start c).args in
+    let a = (start (goal.at.loop-i-preserved c).In-loop-i).args in
     let l = c.loop-i in
     let ws = digits a.n in (
       omega arith,
       omega arith,
       omega arith,
       search rules,
-      all-next ws refl (all-narrow (start c).requires.0) (a.count - l.i) (a.count - (l.i + 1)) l.at l.q _ a.x.now l.o _ (omega arith) (omega arith) (within (goal.at.loop-i-preserved c).In-loop-i).0 c.scatterer.ensures l.invariant.4,
+      all-next ws refl (all-narrow (start (goal.at.loop-i-preserved c).In-loop-i).requires.0) (a.count - l.i) (a.count - (l.i + 1)) l.at l.q _ a.x.now l.o _ (omega arith) (omega arith) (within (goal.at.loop-i-preserved c).In-loop-i).0 c.scatterer.ensures l.invariant.4,
     )
 
 pub returns : goal.returns

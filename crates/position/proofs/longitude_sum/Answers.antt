@@ -36,10 +36,10 @@ overflow_add-result c = let (d16, d64, s, f, p64, t64, t, l64) = known (goal.at.
 pub overflow_cast-result : goal.overflow_cast-result
 overflow_cast-result c =
     let (d16, d64, s, f, p64, t64, t, l64) = known (goal.at.overflow_cast-result c).Start in
-    simp (to_z-of_z, to_z_pos) (lift-cast (z-of c) t)
+    simp (to_z-of_z, to_z_pos) (lift-cast (z-of (goal.at.overflow_cast-result c).Start) t)
 
 pub returns : goal.returns
 unfolding longitude_sum
 returns c =
     let (d16, d64, s, f, p64, t64, t, l64) = known (goal.at.returns c).Start in
-    simp (to_z-of_z, to_z_pos) (lift-reduced (z-of c) t)
+    simp (to_z-of_z, to_z_pos) (lift-reduced (z-of (goal.at.returns c).Start) t)

@@ -80,7 +80,7 @@ slice_bounds-scatterer_records-end c = omega (arith, (within (goal.at.slice_boun
 pub scatterer_records-requires : goal.scatterer_records-requires
 scatterer_records-requires c =
     let l = c.loop-done in
-    let s = start c in
+    let s = start (goal.at.scatterer_records-requires c).After-least-k in
     let t = s.args.t.now in
     let k = c.least-k.result in
     let takes = ap (λ (n : ℕ). k * n) s.pre.1 in (
@@ -94,12 +94,12 @@ slice_bounds-is_front-end c = omega (arith, (within (goal.at.slice_bounds-is_fro
 
 pub is_front-requires : goal.is_front-requires
 is_front-requires c =
-    simp length-take (omega (arith, (few (goal.at.is_front-requires c).After-least-k).2, c.loop-done.invariant.1, (start c).requires.4, c.scatterer_records.auto))
+    simp length-take (omega (arith, (few (goal.at.is_front-requires c).After-least-k).2, c.loop-done.invariant.1, (start (goal.at.is_front-requires c).After-least-k).requires.4, c.scatterer_records.auto))
 
 pub returns-then-not-is_front : goal.returns-then-not-is_front
 returns-then-not-is_front c =
     let l = c.loop-done in
-    let s = start c in
+    let s = start (goal.at.returns-then-not-is_front c).After-least-k in
     let p = s.args.s in
     batch-differs (records p) s.args.each (record_length 12) (joined s) (long p) s.args.t.now p.count l.done c.least-k.result (few (goal.at.returns-then-not-is_front c).After-least-k).0 s.args.x.now l.window _ s.pre.3 (omega (arith, (few (goal.at.returns-then-not-is_front c).After-least-k).2, l.invariant.1, s.pre.4)) c.scatterer_records.ensures c.is_front.ensures (not-true _ c.if-not-is_front.true-raw)
     ∙ l.invariant.2
@@ -113,7 +113,7 @@ loop-done-smaller c = let f = few (goal.at.loop-done-smaller c).After-least-k in
 pub loop-done-preserved : goal.loop-done-preserved
 loop-done-preserved c =
     let l = c.loop-done in
-    let s = start c in
+    let s = start (goal.at.loop-done-preserved c).After-least-k in
     let p = s.args.s in
     let t = s.args.t.now in
     let k = c.least-k.result in (

@@ -65,11 +65,11 @@ segment_records-to-requires c =
 
 pub overflow_add-to : goal.overflow_add-to
 overflow_add-to c =
-    omega (arith, c.segment_records-to.ensures.0, room (goal.at.overflow_add-to c).After-size_at-size, c.well-formed)
+    omega (arith, c.segment_records-to.ensures.0, room (goal.at.overflow_add-to c).After-size_at-size, c.well_formed)
 
 pub overflow_add-at : goal.overflow_add-at
 overflow_add-at c =
-    omega (arith, (here (goal.at.overflow_add-at c).After-size_at-size).within, c.well-formed)
+    omega (arith, (here (goal.at.overflow_add-at c).After-size_at-size).within, c.well_formed)
 
 pub loop-at-smaller : goal.loop-at-smaller
 loop-at-smaller c = let t = here (goal.at.loop-at-smaller c).After-size_at-size in omega (arith, t.header, t.within)

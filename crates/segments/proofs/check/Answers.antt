@@ -68,29 +68,29 @@ sized c =
     fit (start c).args.r (drop at l) _ _ _ h (drop-bytes at l (λ i. ((place c).before.shared-slice-known.given i).fits)) (good c)
 
 pub overflow_add-segments : goal.overflow_add-segments
-overflow_add-segments c = omega (arith, (place c).loop.invariant.segments-le, (place c).loop.invariant.walked.within, (start c).requires)
+overflow_add-segments c = omega (arith, (place (goal.at.overflow_add-segments c).In-Good).loop.invariant.segments-le, (place (goal.at.overflow_add-segments c).In-Good).loop.invariant.walked.within, (start (goal.at.overflow_add-segments c).In-Good).requires)
 
 pub dwells_past-dwells-requires : goal.dwells_past-dwells-requires
 dwells_past-dwells-requires c =
-    let i = (place c).loop.invariant in
-    (rw (tail-is (place c).loop.at (start c).args.l.now) (good (goal.at.dwells_past-dwells-requires c).In-Good).rows, (omega (arith, i.dwells-le.0, i.segments-le, i.walked.within, (start c).requires), omega (arith, i.dwells-le.1, i.segments-le, i.walked.within, (start c).requires)))
+    let i = (place (goal.at.dwells_past-dwells-requires c).In-Good).loop.invariant in
+    (rw (tail-is (place (goal.at.dwells_past-dwells-requires c).In-Good).loop.at (start (goal.at.dwells_past-dwells-requires c).In-Good).args.l.now) (good (goal.at.dwells_past-dwells-requires c).In-Good).rows, (omega (arith, i.dwells-le.0, i.segments-le, i.walked.within, (start (goal.at.dwells_past-dwells-requires c).In-Good).requires), omega (arith, i.dwells-le.1, i.segments-le, i.walked.within, (start (goal.at.dwells_past-dwells-requires c).In-Good).requires)))
 
 pub overflow_add-targets : goal.overflow_add-targets
-overflow_add-targets c = let i = (place c).loop.invariant in omega (arith, (sized (goal.at.overflow_add-targets c).In-Good).few, i.targets-le, i.walked.within, (start c).requires)
+overflow_add-targets c = let i = (place (goal.at.overflow_add-targets c).In-Good).loop.invariant in omega (arith, (sized (goal.at.overflow_add-targets c).In-Good).few, i.targets-le, i.walked.within, (start (goal.at.overflow_add-targets c).In-Good).requires)
 
 pub overflow_add-length : goal.overflow_add-length
-overflow_add-length c = let i = (place c).loop.invariant in omega (arith, (sized (goal.at.overflow_add-length c).In-Good).short, i.length-le, i.walked.within, (start c).requires)
+overflow_add-length c = let i = (place (goal.at.overflow_add-length c).In-Good).loop.invariant in omega (arith, (sized (goal.at.overflow_add-length c).In-Good).short, i.length-le, i.walked.within, (start (goal.at.overflow_add-length c).In-Good).requires)
 
 pub overflow_add-at : goal.overflow_add-at
-overflow_add-at c = let i = (place c).loop.invariant in omega (arith, simp length-drop at (sized (goal.at.overflow_add-at c).In-Good).within, i.walked.within, (start c).requires)
+overflow_add-at c = let i = (place (goal.at.overflow_add-at c).In-Good).loop.invariant in omega (arith, simp length-drop at (sized (goal.at.overflow_add-at c).In-Good).within, i.walked.within, (start (goal.at.overflow_add-at c).In-Good).requires)
 
 pub loop-at-smaller : goal.loop-at-smaller
 loop-at-smaller c = omega (arith, (sized (goal.at.loop-at-smaller c).In-Good).header)
 
 pub loop-at-preserved : goal.loop-at-preserved
 loop-at-preserved c =
-    let a = (start c).args in
-    let l = (place c).loop in
+    let a = (start (goal.at.loop-at-preserved c).In-Good).args in
+    let l = (place (goal.at.loop-at-preserved c).In-Good).loop in
     let i = l.inv in
     let f = sized (goal.at.loop-at-preserved c).In-Good in
     record {

@@ -24,47 +24,47 @@ gathered : (c : At-loop-at) → let a = (start c).args in Gathered a.r a.l.now a
 gathered c = c.loop-at.invariant (start c).args.r (start c).requires.0
 
 -- its segment
-here : (c : In-loop-at) (size : ℕ) → let a = (start c).args in
+here : (c : In-loop-at) (size : ℕ) → let a = (start (goal.at.In-loop-at c).At-loop-at).args in
     size ≡ size_at (tail a.r a.l.now c.loop-at.at) → Turn a.r a.l.now c.loop-at.at (gathered (goal.at.In-loop-at c).At-loop-at).left size
 here c size z =
-    let s = start c in
+    let s = start (goal.at.In-loop-at c).At-loop-at in
     turn s.args.r s.args.l.now c.loop-at.at (gathered (goal.at.In-loop-at c).At-loop-at).left (omega (arith, s.pre.0.short)) c.loop-at-test.true size z
 
 pub bounds-t-0 : goal.bounds-t-0
 bounds-t-0 c = let t = here (goal.at.bounds-t-0 c).In-loop-at _ refl in omega (arith, t.header, t.part)
 
 -- it is a dwell
-dwell : (c : Then-t-eq2) → let a = (start c).args in Dwelling (tail a.r a.l.now c.loop-at.at)
+dwell : (c : Then-t-eq2) → let a = (start (goal.at.Then-t-eq2 c).At-loop-at).args in Dwelling (tail a.r a.l.now c.loop-at.at)
 unfolding type_at
 dwell c =
-    let a = (start c).args in
+    let a = (start (goal.at.Then-t-eq2 c).At-loop-at).args in
     dwelling a.r (tail a.r a.l.now c.loop-at.at) (here (goal.at.Then-t-eq2 c).In-loop-at _ refl).rows c.if-t-eq2.true
 
 pub get_u32-requires : goal.get_u32-requires
 get_u32-requires c = let d = dwell (goal.at.get_u32-requires c).Then-t-eq2 in omega (arith, d.long, d.within)
 
 -- so there is room for its pair
-room : (c : Then-t-eq2) → c.loop-at.n < most_dwells (start c).args.l.now
+room : (c : Then-t-eq2) → c.loop-at.n < most_dwells (start (goal.at.Then-t-eq2 c).At-loop-at).args.l.now
 room c =
     omega (arith, (gathered (goal.at.Then-t-eq2 c).At-loop-at).few, (dwell c).long, (here (goal.at.Then-t-eq2 c).In-loop-at _ refl).within)
 
 pub offset_bounds-o-n : goal.offset_bounds-o-n
-offset_bounds-o-n c = omega (arith, room (goal.at.offset_bounds-o-n c).Then-t-eq2, (start c).requires.0.short)
+offset_bounds-o-n c = omega (arith, room (goal.at.offset_bounds-o-n c).Then-t-eq2, (start (goal.at.offset_bounds-o-n c).At-loop-at).requires.0.short)
 
 pub bounds-o-n : goal.bounds-o-n
 bounds-o-n c =
-    omega (arith, room (goal.at.bounds-o-n c).Then-t-eq2, (gathered (goal.at.bounds-o-n c).At-loop-at).same, (start c).requires.1)
+    omega (arith, room (goal.at.bounds-o-n c).Then-t-eq2, (gathered (goal.at.bounds-o-n c).At-loop-at).same, (start (goal.at.bounds-o-n c).At-loop-at).requires.1)
 
 pub overflow_add-n : goal.overflow_add-n
-overflow_add-n c = omega (arith, room (goal.at.overflow_add-n c).Then-t-eq2, (start c).requires.0.short)
+overflow_add-n c = omega (arith, room (goal.at.overflow_add-n c).Then-t-eq2, (start (goal.at.overflow_add-n c).At-loop-at).requires.0.short)
 
 pub size_at-at-requires : goal.size_at-at-requires
 size_at-at-requires c =
-    headed (start c).args.r (start c).args.l.now c.loop-at.at (gathered (goal.at.size_at-at-requires c).At-loop-at).left c.loop-at-test.true
+    headed (start (goal.at.size_at-at-requires c).At-loop-at).args.r (start (goal.at.size_at-at-requires c).At-loop-at).args.l.now c.loop-at.at (gathered (goal.at.size_at-at-requires c).At-loop-at).left c.loop-at-test.true
 
 pub overflow_add-at : goal.overflow_add-at
 overflow_add-at c =
-    omega (arith, (here (goal.at.overflow_add-at c).In-loop-at _ c.size_at-at.ensures).within, (start c).pre.0.short)
+    omega (arith, (here (goal.at.overflow_add-at c).In-loop-at _ c.size_at-at.ensures).within, (start (goal.at.overflow_add-at c).At-loop-at).pre.0.short)
 
 pub loop-at-smaller : goal.loop-at-smaller
 loop-at-smaller c =
@@ -73,7 +73,7 @@ loop-at-smaller c =
 
 pub loop-at-preserved : goal.loop-at-preserved
 loop-at-preserved c r e =
-    let a = (start c).args in
+    let a = (start (goal.at.loop-at-preserved c).At-loop-at).args in
     let l = a.l.now in
     let g = c.loop-at.invariant r e in
     ⊎_elim
@@ -86,5 +86,5 @@ shape_of-o c = (gathered (goal.at.shape_of-o c).At-loop-at).same
 
 pub returns : goal.returns
 returns c =
-    let s = start c in
+    let s = start (goal.at.returns c).At-loop-at in
     gather-end s.args.r s.args.l.now s.args.o.now (gathered (goal.at.returns c).At-loop-at) (omega arith) s.pre.1

@@ -31,7 +31,7 @@ returns-then-x-at-ne-KIND c =
     (λ e. absurd (true≢false (sym e)), λ b. absurd (c.if-x-at-ne-KIND.true (eqb-true _ _ (ap (is_begun_at 12 x) l.invariant.2 ∙ b.each l.i (omega (arith, c.loop-i-test.true))))))
 
 pub overflow_add-at : goal.overflow_add-at
-overflow_add-at c = omega (arith, within (goal.at.overflow_add-at c).After-shared_slice_known-1, c.well-formed)
+overflow_add-at c = omega (arith, within (goal.at.overflow_add-at c).After-shared_slice_known-1, c.well_formed)
 
 pub loop-i-preserved : goal.loop-i-preserved
 loop-i-preserved c =

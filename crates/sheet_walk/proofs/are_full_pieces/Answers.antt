@@ -41,7 +41,7 @@ pub not_full-seen-requires : goal.not_full-seen-requires
 not_full-seen-requires c = omega (arith, within (goal.at.not_full-seen-requires c).In-loop-i)
 
 pub overflow_add-at : goal.overflow_add-at
-overflow_add-at c = omega (arith, within (goal.at.overflow_add-at c).In-loop-i, c.well-formed)
+overflow_add-at c = omega (arith, within (goal.at.overflow_add-at c).In-loop-i, c.well_formed)
 
 pub loop-i-preserved : goal.loop-i-preserved
 loop-i-preserved c =

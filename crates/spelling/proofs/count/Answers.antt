@@ -10,6 +10,7 @@ use Rattle.spelling.specs.InnerSpelling.{record_in}
 use Rattle.spelling.proofs.Followers.{share-le}
 use Rattle.spelling.proofs.Surveyed.{count-other, count-unshared, count-follower, count-misplaced, count-leader}
 use Rattle.spelling.proofs.count.Goals as goal
+use Rattle.spelling.proofs.count.Goals.{Start}
 
 -- what is due, and the record
 abbrev due_in : Start → Due
@@ -20,27 +21,27 @@ given s = record_in s.args.kind s.args.b.now
 
 pub returns-then-kind-follower : goal.returns-then-kind-follower
 returns-then-kind-follower c =
-    sym (count-other (due_in c) c.args.sum (given c) c.if-left-gt0.true c.if-kind-follower.true)
+    sym (count-other (due_in (goal.at.returns-then-kind-follower c).Start) c.args.sum (given (goal.at.returns-then-kind-follower c).Start) c.if-left-gt0.true c.if-kind-follower.true)
 
 pub returns-then-carried-n : goal.returns-then-carried-n
 returns-then-carried-n c =
-    sym (count-unshared (due_in c) c.args.sum (given c) c.if-left-gt0.true (λ e. c.if-carried-n.true (c.carried.ensures ∙ e ∙ sym c.share-n.ensures)))
+    sym (count-unshared (due_in (goal.at.returns-then-carried-n c).Start) c.args.sum (given (goal.at.returns-then-carried-n c).Start) c.if-left-gt0.true (λ e. c.if-carried-n.true (c.carried.ensures ∙ e ∙ sym c.share-n.ensures)))
 
 pub overflow_sub-rest : goal.overflow_sub-rest
 overflow_sub-rest c =
-    omega (arith, c.share-n.ensures, share-le (due_in c) c.if-left-gt0.true)
+    omega (arith, c.share-n.ensures, share-le (due_in (goal.at.overflow_sub-rest c).Start) c.if-left-gt0.true)
 
 pub returns-then-left-gt0 : goal.returns-then-left-gt0
 returns-then-left-gt0 c =
     let e = c.share-n.ensures in
     ap (λ (m : ℕ). Then c.args.follower (c.args.left - m) c.args.sum) e
-    ∙ sym (count-follower (due_in c) c.args.sum (given c) c.if-left-gt0.true c.if-kind-follower.false (sym c.carried.ensures ∙ c.if-carried-n.false ∙ e))
+    ∙ sym (count-follower (due_in (goal.at.returns-then-left-gt0 c).Start) c.args.sum (given (goal.at.returns-then-left-gt0 c).Start) c.if-left-gt0.true c.if-kind-follower.false (sym c.carried.ensures ∙ c.if-carried-n.false ∙ e))
 
 pub returns-then-is_follower : goal.returns-then-is_follower
 returns-then-is_follower c =
-    sym (count-misplaced (due_in c) c.args.sum (given c) (omega arith) (sym c.is_follower.ensures ∙ c.if-is_follower.true))
+    sym (count-misplaced (due_in (goal.at.returns-then-is_follower c).Start) c.args.sum (given (goal.at.returns-then-is_follower c).Start) (omega arith) (sym c.is_follower.ensures ∙ c.if-is_follower.true))
 
 pub returns : goal.returns
 returns c =
     let leads = sym c.is_follower.ensures ∙ c.if-is_follower.false in
-    count-leader (due_in c) c.args.sum (given c) (omega arith) leads _ _ c.lead_of-l.ensures.1 (omega (arith, c.capped-n.ensures, c.segment_size.ensures.0))
+    count-leader (due_in (goal.at.returns c).Start) c.args.sum (given (goal.at.returns c).Start) (omega arith) leads _ _ c.lead_of-l.ensures.1 (omega (arith, c.capped-n.ensures, c.segment_size.ensures.0))

@@ -39,10 +39,10 @@ scatterers-there c = let a = c.args in
     from_place a.x.now a.at 12 a.left (c.are_scatterers.ensures.0 c.if-are_scatterers.true)
 
 pub overflow_mul-result : goal.overflow_mul-result
-overflow_mul-result c = omega (arith, (full-there (goal.at.overflow_mul-result c).Then-are_full_pieces).long, length-drop c.args.at c.args.x.now, c.well-formed)
+overflow_mul-result c = omega (arith, (full-there (goal.at.overflow_mul-result c).Then-are_full_pieces).long, length-drop c.args.at c.args.x.now, c.well_formed)
 
 pub overflow_add-result : goal.overflow_add-result
-overflow_add-result c = omega (arith, (full-there (goal.at.overflow_add-result c).Then-are_full_pieces).long, length-drop c.args.at c.args.x.now, c.well-formed, c.requires)
+overflow_add-result c = omega (arith, (full-there (goal.at.overflow_add-result c).Then-are_full_pieces).long, length-drop c.args.at c.args.x.now, c.well_formed, c.requires)
 
 pub returns-then-are_full_pieces : goal.returns-then-are_full_pieces
 returns-then-are_full_pieces c = let a = c.args in
@@ -55,10 +55,10 @@ pub returns-then-follower-ne-KIND : goal.returns-then-follower-ne-KIND
 returns-then-follower-ne-KIND c = let a = c.args in stays a.x.now a.at a.follower a.left
 
 pub overflow_mul-result-then-are_scatterers : goal.overflow_mul-result-then-are_scatterers
-overflow_mul-result-then-are_scatterers c = omega (arith, (scatterers-there (goal.at.overflow_mul-result-then-are_scatterers c).Then-are_scatterers).long, length-drop c.args.at c.args.x.now, c.well-formed)
+overflow_mul-result-then-are_scatterers c = omega (arith, (scatterers-there (goal.at.overflow_mul-result-then-are_scatterers c).Then-are_scatterers).long, length-drop c.args.at c.args.x.now, c.well_formed)
 
 pub overflow_add-result-then-are_scatterers : goal.overflow_add-result-then-are_scatterers
-overflow_add-result-then-are_scatterers c = omega (arith, (scatterers-there (goal.at.overflow_add-result-then-are_scatterers c).Then-are_scatterers).long, length-drop c.args.at c.args.x.now, c.well-formed, c.requires)
+overflow_add-result-then-are_scatterers c = omega (arith, (scatterers-there (goal.at.overflow_add-result-then-are_scatterers c).Then-are_scatterers).long, length-drop c.args.at c.args.x.now, c.well_formed, c.requires)
 
 pub returns-then-are_scatterers : goal.returns-then-are_scatterers
 returns-then-are_scatterers c = let a = c.args in

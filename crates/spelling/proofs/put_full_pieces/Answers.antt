@@ -20,12 +20,12 @@ copy32-requires c =
 pub overflow_add-from-in-loop-i : goal.overflow_add-from-in-loop-i
 overflow_add-from-in-loop-i c =
     let l = c.loop-i in
-    omega (arith, l.invariant.1, c.requires.0, c.loop-i-test.true, c.well-formed)
+    omega (arith, l.invariant.1, c.requires.0, c.loop-i-test.true, c.well_formed)
 
 pub overflow_add-to : goal.overflow_add-to
 overflow_add-to c =
     let l = c.loop-i in
-    omega (arith, l.invariant.2, c.requires.1, c.loop-i-test.true, c.well-formed)
+    omega (arith, l.invariant.2, c.requires.1, c.loop-i-test.true, c.well_formed)
 
 pub loop-i-preserved : goal.loop-i-preserved
 loop-i-preserved c =

@@ -56,7 +56,7 @@ put_row-behind-requires c =
 pub overflow_add-result : goal.overflow_add-result
 overflow_add-result c =
     let put = c.put_record-n in
-    omega (arith, room (goal.at.overflow_add-result c).Start, put.ensures.0, c.put_row-behind.ensures.written_is, c.well-formed)
+    omega (arith, room (goal.at.overflow_add-result c).Start, put.ensures.0, c.put_row-behind.ensures.written_is, c.well_formed)
 
 pub returns-then-leads_row : goal.returns-then-leads_row
 returns-then-leads_row c =

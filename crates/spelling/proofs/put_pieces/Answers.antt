@@ -68,10 +68,10 @@ module _ (c : After-slice_known-2-1) where
   mul-written = omega (arith, mul-read)
 
 pub overflow_mul-result : goal.overflow_mul-result
-overflow_mul-result c = omega (arith, mul-read (goal.at.overflow_mul-result c).After-slice_known-2-1, c.well-formed)
+overflow_mul-result c = omega (arith, mul-read (goal.at.overflow_mul-result c).After-slice_known-2-1, c.well_formed)
 
 pub overflow_mul-result-2 : goal.overflow_mul-result-2
-overflow_mul-result-2 c = omega (arith, mul-written (goal.at.overflow_mul-result-2 c).After-slice_known-2-1, c.well-formed)
+overflow_mul-result-2 c = omega (arith, mul-written (goal.at.overflow_mul-result-2 c).After-slice_known-2-1, c.well_formed)
 
 pub returns : goal.returns
 returns c =

@@ -114,11 +114,11 @@ put-within p =
 
 pub overflow_add-to : goal.overflow_add-to
 overflow_add-to c =
-    omega (arith, put-long (goal.at.overflow_add-to c).After-put_next-step, room (goal.at.overflow_add-to c).In-Whole, c.loop-kind.invariant.same, c.copy32.auto.1.1.0, c.well-formed)
+    omega (arith, put-long (goal.at.overflow_add-to c).After-put_next-step, room (goal.at.overflow_add-to c).In-Whole, c.loop-kind.invariant.same, c.copy32.auto.1.1.0, c.well_formed)
 
 pub overflow_add-at : goal.overflow_add-at
 overflow_add-at c =
-    omega (arith, put-within (goal.at.overflow_add-at c).After-put_next-step, c.well-formed)
+    omega (arith, put-within (goal.at.overflow_add-at c).After-put_next-step, c.well_formed)
 
 pub loop-kind-smaller-then-not-is_follower : goal.loop-kind-smaller-then-not-is_follower
 loop-kind-smaller-then-not-is_follower c = omega (arith, (here (goal.at.loop-kind-smaller-then-not-is_follower c).In-Whole).within, put-within (goal.at.loop-kind-smaller-then-not-is_follower c).After-put_next-step)

@@ -6,6 +6,7 @@ use Rattle.octets.specs.Layout.{total}
 use Rattle.mask.specs.Fields.{announced_length}
 use Rattle.unpack.proofs.Lines.{onward}
 use Rattle.unpack_hrr.proofs.h26_to_31.Goals as goal
+use Rattle.unpack_hrr.proofs.h26_to_31.Goals.{After-field4-arg-3-1}
 
 -- where the function begins, from the last field on
 abbrev start : After-field4-arg-3-1 → Start
@@ -19,11 +20,11 @@ start c =
 
 pub overflow_add-q-5 : goal.overflow_add-q-5
 unfolding total
-overflow_add-q-5 c = let s = start c in omega (arith, s.good, s.pre)
+overflow_add-q-5 c = let s = start (goal.at.overflow_add-q-5 c).After-field4-arg-3-1 in omega (arith, s.good, s.pre)
 
 pub field4-requires : goal.field4-requires
 unfolding announced_length total
-field4-requires c = let pre = (start c).requires in search rules
+field4-requires c = let pre = (start (goal.at.field4-requires c).After-field4-arg-3-1).requires in search rules
 
 pub returns : goal.returns
 unfolding total

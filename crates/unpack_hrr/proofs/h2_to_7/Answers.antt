@@ -6,6 +6,7 @@ use Rattle.octets.specs.Layout.{total}
 use Rattle.mask.specs.Fields.{announced_length}
 use Rattle.unpack.proofs.Lines.{onward}
 use Rattle.unpack_hrr.proofs.h2_to_7.Goals as goal
+use Rattle.unpack_hrr.proofs.h2_to_7.Goals.{After-field2-arg-5-1}
 
 -- where the function begins, from the last field on
 abbrev start : After-field2-arg-5-1 → Start
@@ -19,11 +20,11 @@ start c =
 
 pub overflow_add-q-5 : goal.overflow_add-q-5
 unfolding total
-overflow_add-q-5 c = let s = start c in omega (arith, s.good, s.pre)
+overflow_add-q-5 c = let s = start (goal.at.overflow_add-q-5 c).After-field2-arg-5-1 in omega (arith, s.good, s.pre)
 
 pub field2-requires : goal.field2-requires
 unfolding announced_length total
-field2-requires c = let pre = (start c).requires in search rules
+field2-requires c = let pre = (start (goal.at.field2-requires c).After-field2-arg-5-1).requires in search rules
 
 pub returns : goal.returns
 unfolding total
