@@ -379,6 +379,18 @@ def turned(crate, function, names, text):
                 code = re.sub(r"(?<![\w'.-])" + re.escape(a) + r"(?![\w'-])", t.new_place.get(pl, a), code)
             code = t.term(code, env, ("lemma", at))
         ans.append(comment + code)
+    # what stands in the last piece itself
+    opened = re.search(r"(?m)^unfolding .*$", spec)
+    for i, a in enumerate(given[: len(needs)]):
+        m = re.match(r"\(λ (" + NAME + r")(?: κs)?\. (.*)\)$", a, re.S)
+        if not m:
+            continue
+        old, new = needs[i]
+        stated = re.match(r"returns|.*(requires|init|preserved)$", new)
+        if m[2].strip() in TRIVIAL and not (opened and stated):
+            continue
+        term = t.term(m[2], {m[1]: ("place", names["asked_at"][i][0])}, ("goal", new))
+        ans.append(f"pub {new} : goal.{new}\n" + (opened[0] + "\n" if opened and stated else "") + f"{new} c = {term}")
     uses = [u for u in uses if not re.search(r"\.(Statement|Tie)\b", u)]
     files = {}
     if inv:
