@@ -149,3 +149,9 @@ pub returns : goal.returns
 unfolding first_row dwell_rows
 returns c =
     sym (past-15 (goal.at.returns c).Else-new-ne0 ∙ rw (right-size c.args.b.now (required (goal.at.returns c).Else-fault-ne0) (c.if-b-start-2.false ∙ size_is (goal.at.returns c).After-target_length-each)) (sym (c.dwell_values.ensures c.args.r)))
+
+pub length_before_d24-at-requires : goal.length_before_d24-at-requires
+length_before_d24-at-requires c = required-there (goal.at.length_before_d24-at-requires c).Else-fault-ne0
+
+pub length_from_d24-requires : goal.length_from_d24-requires
+length_from_d24-requires c = required-there (goal.at.length_from_d24-requires c).Else-fault-ne0

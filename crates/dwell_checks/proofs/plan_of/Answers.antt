@@ -23,3 +23,9 @@ plan_by-requires c =
     let before = c.length_before_d24-at.ensures.0 in
     let m = c.args.mask in
     (c.requires, ap (λ (k : ℕ). 8 + k) before, omega (arith, before, c.length_from_d24.ensures.0, split-24 m c.requires.1), c.target_length.ensures, c.target_count.ensures)
+
+pub length_before_d24-at-requires : goal.length_before_d24-at-requires
+length_before_d24-at-requires c = c.requires.1
+
+pub length_from_d24-requires : goal.length_from_d24-requires
+length_from_d24-requires c = c.requires.1

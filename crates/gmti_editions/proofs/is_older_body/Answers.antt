@@ -2,7 +2,7 @@
 -- Assumes nothing.
 use Prim.Native.Nat.{ℕ, ◌-◌}
 use native.Mathlib.Omega.{arith}
-use mathlib.Core.Path.{◌∙◌}
+use mathlib.Core.Path.{refl, ◌∙◌}
 use mathlib.Core.Bool.{Bool}
 use mathlib.Core.List.{List}
 use Rattle.demands.specs.Places.{is_withheld_in}
@@ -36,3 +36,6 @@ returns c =
     let end = c.loop-i-test.false in
     body_end (places c.args.kind newer) newer c.args.older.now c.loop-i.i (omega (arith, c.loop-i.invariant.0, end)) (omega (arith, c.requires, c.loop-i.invariant.0, end))
     ∙ c.loop-i.invariant.2
+
+pub loop-i-init : goal.loop-i-init
+loop-i-init c = (refl, omega arith, refl)

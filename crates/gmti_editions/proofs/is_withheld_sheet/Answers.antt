@@ -4,13 +4,14 @@ use Prim.Native.Nat.{ℕ, ◌-◌}
 use native.Mathlib.Omega.{arith}
 use mathlib.Core.Path.{◌≡◌, refl, sym, ap₂, ◌∙◌}
 use mathlib.Core.List.{List}
+use borrow.Author.Rules.{rules}
 use borrow.Author.Tests.{not-true, not-false}
 use lib.ListN.{length}
 use Rattle.octets.proofs.Parts.{tail-is}
 use Rattle.format.specs.Writer.{is_same}
 use Rattle.sheet_walk.proofs.Places.{WholeAt, at_place, none-at}
 use Rattle.gmti_editions.specs.Verdict.{is_withheld_sheet}
-use Rattle.gmti_editions.proofs.Sheets.{other_length, none-withheld, kind-differs, body-differs, record_same}
+use Rattle.gmti_editions.proofs.Sheets.{other_length, none-withheld, parts_same, kind-differs, body-differs, record_same}
 use Rattle.gmti_editions.proofs.is_withheld_sheet.Goals as goal
 use Rattle.gmti_editions.proofs.is_withheld_sheet.Goals.{In-Whole}
 
@@ -57,3 +58,33 @@ loop-kind-preserved c =
       within = (here (goal.at.loop-kind-preserved c).In-Whole).ranges;
       rest = record_same (here (goal.at.loop-kind-preserved c).In-Whole) (older (goal.at.loop-kind-preserved c).In-Whole) (same (goal.at.loop-kind-preserved c).In-Whole) c.if-kind-older.false c.is_older_body.ensures (not-false _ c.if-not-is_older_body.false-raw) ∙ (place (goal.at.loop-kind-preserved c).In-Whole).loop.invariant.rest;
     }
+
+pub bounds-older-at : goal.bounds-older-at
+bounds-older-at c = let w = here (goal.at.bounds-older-at c).In-Whole in omega (arith, w.within, w.fits, same (goal.at.bounds-older-at c).In-Whole)
+
+pub overflow_add-body : goal.overflow_add-body
+overflow_add-body c = let w = here (goal.at.overflow_add-body c).In-Whole in search rules
+
+pub slice_bounds-is_older_body-count : goal.slice_bounds-is_older_body-count
+slice_bounds-is_older_body-count c = let w = here (goal.at.slice_bounds-is_older_body-count c).In-Whole in search rules
+
+pub slice_bounds-is_older_body-start : goal.slice_bounds-is_older_body-start
+slice_bounds-is_older_body-start c = let w = here (goal.at.slice_bounds-is_older_body-start c).In-Whole in search rules
+
+pub slice_bounds-is_older_body-end : goal.slice_bounds-is_older_body-end
+slice_bounds-is_older_body-end c = let w = here (goal.at.slice_bounds-is_older_body-end c).In-Whole in search rules
+
+pub slice_bounds-is_older_body-count-in-loop-kind : goal.slice_bounds-is_older_body-count-in-loop-kind
+slice_bounds-is_older_body-count-in-loop-kind c = let w = here (goal.at.slice_bounds-is_older_body-count-in-loop-kind c).In-Whole in search rules
+
+pub slice_bounds-is_older_body-start-in-loop-kind : goal.slice_bounds-is_older_body-start-in-loop-kind
+slice_bounds-is_older_body-start-in-loop-kind c = let w = here (goal.at.slice_bounds-is_older_body-start-in-loop-kind c).In-Whole in search rules
+
+pub slice_bounds-is_older_body-end-in-loop-kind : goal.slice_bounds-is_older_body-end-in-loop-kind
+slice_bounds-is_older_body-end-in-loop-kind c = let w = here (goal.at.slice_bounds-is_older_body-end-in-loop-kind c).In-Whole in search rules
+
+pub is_older_body-requires : goal.is_older_body-requires
+is_older_body-requires c = parts_same (here (goal.at.is_older_body-requires c).In-Whole) (older (goal.at.is_older_body-requires c).In-Whole) (same (goal.at.is_older_body-requires c).In-Whole)
+
+pub loop-kind-smaller : goal.loop-kind-smaller
+loop-kind-smaller c = let w = here (goal.at.loop-kind-smaller c).In-Whole in omega (arith, w.within, w.fits)

@@ -58,3 +58,21 @@ returns c =
     let a = c.args in
     let l = c.loop-i in
     scatterers-last (digits a.n) (a.count - l.i) l.at l.q a.t.now l.o _ (omega arith) l.invariant.4
+
+pub slice_bounds-scatterer_record-count : goal.slice_bounds-scatterer_record-count
+slice_bounds-scatterer_record-count c = omega (arith, within (goal.at.slice_bounds-scatterer_record-count c).In-loop-i)
+
+pub slice_bounds-scatterer_record-start : goal.slice_bounds-scatterer_record-start
+slice_bounds-scatterer_record-start c = omega (arith, within (goal.at.slice_bounds-scatterer_record-start c).In-loop-i)
+
+pub slice_bounds-scatterer_record-count-in-loop-i : goal.slice_bounds-scatterer_record-count-in-loop-i
+slice_bounds-scatterer_record-count-in-loop-i c = omega (arith, within (goal.at.slice_bounds-scatterer_record-count-in-loop-i c).In-loop-i)
+
+pub slice_bounds-scatterer_record-start-in-loop-i : goal.slice_bounds-scatterer_record-start-in-loop-i
+slice_bounds-scatterer_record-start-in-loop-i c = omega (arith, within (goal.at.slice_bounds-scatterer_record-start-in-loop-i c).In-loop-i)
+
+pub overflow_add-at : goal.overflow_add-at
+overflow_add-at c = omega (arith, within (goal.at.overflow_add-at c).In-loop-i)
+
+pub overflow_add-q : goal.overflow_add-q
+overflow_add-q c = omega (arith, within (goal.at.overflow_add-q c).In-loop-i)

@@ -3,8 +3,8 @@
 use mathlib.Core.Path.{refl}
 use Prim.Native.Nat.{ℕ}
 use Rattle.octets.specs.Layout.{total}
-use Rattle.mask.specs.Fields.{announced}
-use Rattle.pack.proofs.Lines.{onward, copied-needs, copied}
+use Rattle.mask.specs.Fields.{announced, announced_length}
+use Rattle.pack.proofs.Lines.{onward, copied-needs, copied, passed}
 use Rattle.pack.proofs.d24_to_27.Goals as goal
 
 -- the word with the bits of D24 to D27
@@ -26,3 +26,7 @@ unfolding total
 returns-else-has_none c =
     onward (onward (onward (λ _. c.field4-d25.ensures) c.field4-d26.ensures) c.field2-d27.ensures) c.field2.ensures
     c.requires.held
+
+pub returns-then-has_none : goal.returns-then-has_none
+unfolding announced announced_length total
+returns-then-has_none c = passed set c.has_none.ensures c.if-has_none.true refl

@@ -3,8 +3,8 @@
 use mathlib.Core.Path.{refl}
 use Prim.Native.Nat.{ℕ}
 use Rattle.octets.specs.Layout.{total}
-use Rattle.mask.specs.Fields.{announced}
-use Rattle.pack.proofs.Lines.{onward, copied-needs, copied}
+use Rattle.mask.specs.Fields.{announced, announced_length}
+use Rattle.pack.proofs.Lines.{onward, copied-needs, copied, passed}
 use Rattle.pack.proofs.d32_6_to_15.Goals as goal
 
 -- the word with the bits of D32.6 to D32.15
@@ -26,3 +26,7 @@ unfolding total
 returns-else-has_none c =
     onward (onward (onward (onward (λ _. c.field2-d32_7.ensures) c.field2-d32_8.ensures) c.field2-d32_9.ensures) c.field1-d32_10.ensures) c.d32_10_to_15.ensures
     c.requires.held
+
+pub returns-then-has_none : goal.returns-then-has_none
+unfolding announced announced_length total
+returns-then-has_none c = passed set c.has_none.ensures c.if-has_none.true refl

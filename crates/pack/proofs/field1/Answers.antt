@@ -1,6 +1,6 @@
 -- `pack::field1` meets its contract. An announced field is copied, and one that is not is left out. Assumes nothing.
 use Rattle.octets.specs.Layout.{total}
-use Rattle.pack.proofs.Lines.{block_needs, block}
+use Rattle.pack.proofs.Lines.{block_needs, block, blank}
 use Rattle.pack.proofs.field1.Goals as goal
 
 pub copy1-requires : goal.copy1-requires
@@ -12,3 +12,6 @@ pub returns-then-has : goal.returns-then-has
 unfolding total
 returns-then-has c =
     block (rw (← c.has.ensures, c.if-has.true)) c.copy1.ensures
+
+pub returns-else-has : goal.returns-else-has
+returns-else-has c = blank (rw (← c.has.ensures, c.if-has.false))

@@ -1,5 +1,8 @@
 -- `printing::put_answer` meets its contract. The two cases of an answer: each a word and its numbers.
 -- Assumes nothing.
+use native.Mathlib.Omega.{arith}
+use lib.ListN.{length-set}
+use mathlib.Core.Path.{◌∙◌}
 use Rattle.printing.proofs.Lines.{put-accepted, put_refused}
 use Rattle.printing.proofs.put_answer.Goals as goal
 
@@ -12,3 +15,21 @@ pub returns-in-Refused : goal.returns-in-Refused
 returns-in-Refused c =
     let h = put_refused _ _ c.in-Refused.is c.put_three.ensures in
     ((h.next, h.room), h.stored)
+
+pub bounds-o-at-in-Accepted : goal.bounds-o-at-in-Accepted
+bounds-o-at-in-Accepted c = simp length-set (omega arith)
+
+pub put_three-p-requires : goal.put_three-p-requires
+put_three-p-requires c = simp length-set (omega arith)
+
+pub bounds-o-at-in-Refused-2 : goal.bounds-o-at-in-Refused-2
+bounds-o-at-in-Refused-2 c = simp length-set (omega arith)
+
+pub put_three-requires : goal.put_three-requires
+put_three-requires c = simp length-set (omega arith)
+
+pub shape_of-o-in-Accepted : goal.shape_of-o-in-Accepted
+shape_of-o-in-Accepted c = c.put_spaced.auto.0 ∙ c.put_three-p.auto.0 ∙ simp length-set
+
+pub shape_of-o-in-Refused : goal.shape_of-o-in-Refused
+shape_of-o-in-Refused c = c.put_three.auto.0 ∙ simp length-set

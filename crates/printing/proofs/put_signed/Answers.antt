@@ -1,6 +1,8 @@
 -- `printing::put_signed` meets its contract. The sign and the digits behind it, or the digits alone.
 -- Assumes nothing.
-use mathlib.Core.Path.{◌≡◌}
+use native.Mathlib.Omega.{arith}
+use mathlib.Core.Path.{◌≡◌, ◌∙◌}
+use lib.ListN.{length-set}
 use lib.IntN.{negsuc, ◌-ℤ◌}
 use mir.Syntax.{w32}
 use mir.Val.{to_z, of_z}
@@ -26,3 +28,24 @@ returns-then-z-lt0 c =
 pub returns-else-z-lt0 : goal.returns-else-z-lt0
 returns-else-z-lt0 c =
     put-plain _ _ _ (other (goal.at.returns-else-z-lt0 c).Else-z-lt0) (rw (back (goal.at.returns-else-z-lt0 c).Start) at c.put_decimal-else-z-lt0.ensures)
+
+pub overflow_sub-z : goal.overflow_sub-z
+overflow_sub-z c = rw (back (goal.at.overflow_sub-z c).Start) (known (goal.at.overflow_sub-z c).Then-z-lt0).fits-down
+
+pub overflow_cast-z : goal.overflow_cast-z
+overflow_cast-z c = rw (back (goal.at.overflow_cast-z c).Start) (known (goal.at.overflow_cast-z c).Then-z-lt0).not_neg
+
+pub overflow_add-z : goal.overflow_add-z
+overflow_add-z c = rw (back (goal.at.overflow_add-z c).Start) (record { fits = omega (arith, (known (goal.at.overflow_add-z c).Then-z-lt0).small) })
+
+pub put_decimal-requires : goal.put_decimal-requires
+put_decimal-requires c = rw (back (goal.at.put_decimal-requires c).Start, length-set) (omega (arith, c.requires, (known (goal.at.put_decimal-requires c).Then-z-lt0).fits))
+
+pub overflow_cast-z-else-z-lt0 : goal.overflow_cast-z-else-z-lt0
+overflow_cast-z-else-z-lt0 c = rw (back (goal.at.overflow_cast-z-else-z-lt0 c).Start) (other (goal.at.overflow_cast-z-else-z-lt0 c).Else-z-lt0).not_neg
+
+pub put_decimal-requires-else-z-lt0 : goal.put_decimal-requires-else-z-lt0
+put_decimal-requires-else-z-lt0 c = rw (back (goal.at.put_decimal-requires-else-z-lt0 c).Start) (omega (arith, c.requires, (other (goal.at.put_decimal-requires-else-z-lt0 c).Else-z-lt0).fits))
+
+pub shape_of-o-then-z-lt0 : goal.shape_of-o-then-z-lt0
+shape_of-o-then-z-lt0 c = c.put_decimal.auto.0 ∙ simp length-set

@@ -14,3 +14,6 @@ returns-then-kind-eq-KIND c =
 pub returns-else-kind-eq-KIND : goal.returns-else-kind-eq-KIND
 unfolding record_line
 returns-else-kind-eq-KIND c = rw (ne_eqb _ 4 c.if-kind-eq-KIND.false) (put-within (put-none _ _) (omega arith))
+
+pub target_line-requires : goal.target_line-requires
+target_line-requires c = rw c.if-kind-eq-KIND.true at c.requires

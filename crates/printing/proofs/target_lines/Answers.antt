@@ -2,10 +2,11 @@
 -- Assumes nothing.
 use Prim.Native.Nat.{◌-◌}
 use native.Mathlib.Omega.{arith}
+use borrow.Author.Rules.{rules}
 use lib.ListN.{length}
 use Rattle.sheet_walk.proofs.Places.{WholeAt, at_place}
 use Rattle.printing.proofs.Lines.{put_same}
-use Rattle.printing.proofs.Records.{body-ends, walk_end, walk_turn}
+use Rattle.printing.proofs.Records.{body-ends, walk_start, walk_end, walk_turn}
 use Rattle.printing.proofs.target_lines.Goals as goal
 use Rattle.printing.proofs.target_lines.Goals.{In-Whole}
 
@@ -32,3 +33,27 @@ returns-in-End c =
 pub returns-in-Cut : goal.returns-in-Cut
 returns-in-Cut c =
     walk_end c.loop-kind.invariant (at_place _ _ c.record_at.ensures c.in-Cut.is)
+
+pub loop-kind-init : goal.loop-kind-init
+loop-kind-init c = walk_start _ _ _
+
+pub overflow_add-body : goal.overflow_add-body
+overflow_add-body c = let w = here (goal.at.overflow_add-body c).In-Whole in search rules
+
+pub slice_bounds-record_line-count : goal.slice_bounds-record_line-count
+slice_bounds-record_line-count c = let w = here (goal.at.slice_bounds-record_line-count c).In-Whole in search rules
+
+pub slice_bounds-record_line-start : goal.slice_bounds-record_line-start
+slice_bounds-record_line-start c = let w = here (goal.at.slice_bounds-record_line-start c).In-Whole in search rules
+
+pub slice_bounds-record_line-end : goal.slice_bounds-record_line-end
+slice_bounds-record_line-end c = let w = here (goal.at.slice_bounds-record_line-end c).In-Whole in search rules
+
+pub loop-kind-smaller : goal.loop-kind-smaller
+loop-kind-smaller c = let w = here (goal.at.loop-kind-smaller c).In-Whole in search rules
+
+pub shape_of-o-in-End : goal.shape_of-o-in-End
+shape_of-o-in-End c = put_same (returns c)
+
+pub shape_of-o-in-Cut : goal.shape_of-o-in-Cut
+shape_of-o-in-Cut c = put_same (returns-2 c)

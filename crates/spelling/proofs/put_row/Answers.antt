@@ -20,3 +20,6 @@ returns-then-kind-eq-KIND c =
 pub put_pieces-requires : goal.put_pieces-requires
 put_pieces-requires c =
     (c.requires.0, led-rows c.args.kind c.requires.1 c.if-kind-eq-KIND.false, c.requires.2)
+
+pub returns : goal.returns
+returns c = c.put_pieces.ensures

@@ -1,6 +1,7 @@
 -- `unpack::field2_onto_zeros` meets its contract. An announced field is copied, and the place of one that is not has zeros already.
 -- Assumes nothing.
 use native.Mathlib.Omega.{arith}
+use borrow.Author.Rules.{rules}
 use Rattle.octets.specs.Layout.{total}
 use Rattle.unpack.proofs.Lines.{block_needs, block, blank-there}
 use Rattle.unpack.proofs.field2_onto_zeros.Goals as goal
@@ -20,3 +21,7 @@ unfolding total
 returns-else-has c =
     let asked = c.requires in
     blank-there asked.2 (rw (← c.has.ensures, c.if-has.false)) asked.3
+
+pub has-requires : goal.has-requires
+unfolding total
+has-requires c = search rules

@@ -1,6 +1,7 @@
 -- `unpack::field4` meets its contract. An announced field is copied, and one that is not is zero.
 -- Assumes nothing.
 use native.Mathlib.Omega.{arith}
+use borrow.Author.Rules.{rules}
 use Rattle.octets.specs.Layout.{total}
 use Rattle.unpack.proofs.Lines.{block_needs, block, blank}
 use Rattle.unpack.proofs.field4.Goals as goal
@@ -19,3 +20,11 @@ pub returns-else-has : goal.returns-else-has
 unfolding total
 returns-else-has c =
     blank (rw (← c.has.ensures, c.if-has.false)) c.clear4.ensures
+
+pub has-requires : goal.has-requires
+unfolding total
+has-requires c = search rules
+
+pub clear4-requires : goal.clear4-requires
+unfolding total
+clear4-requires c = search rules

@@ -30,3 +30,23 @@ pub returns : goal.returns
 unfolding total
 returns c =
     onward (onward (onward (onward (onward c.field4-h15.ensures c.field4-h16.ensures) c.field1-h17.ensures) c.field1-h18.ensures) c.field1-h19.ensures) c.field2.ensures
+
+pub field4-h15-requires : goal.field4-h15-requires
+unfolding announced_length total
+field4-h15-requires c = search rules
+
+pub field4-h16-requires : goal.field4-h16-requires
+unfolding announced_length total
+field4-h16-requires c = search rules
+
+pub field1-h17-requires : goal.field1-h17-requires
+unfolding announced_length total
+field1-h17-requires c = search rules
+
+pub field1-h18-requires : goal.field1-h18-requires
+unfolding announced_length total
+field1-h18-requires c = search rules
+
+pub field1-h19-requires : goal.field1-h19-requires
+unfolding announced_length total
+field1-h19-requires c = search rules

@@ -30,3 +30,23 @@ pub returns : goal.returns
 unfolding total
 returns c =
     onward (onward (onward (onward (onward c.field1-h21.ensures c.field2-h22.ensures) c.field4-h23.ensures) c.field1-h24.ensures) c.field1-h25.ensures) c.field1.ensures
+
+pub field1-h21-requires : goal.field1-h21-requires
+unfolding announced_length total
+field1-h21-requires c = search rules
+
+pub field2-h22-requires : goal.field2-h22-requires
+unfolding announced_length total
+field2-h22-requires c = search rules
+
+pub field4-h23-requires : goal.field4-h23-requires
+unfolding announced_length total
+field4-h23-requires c = search rules
+
+pub field1-h24-requires : goal.field1-h24-requires
+unfolding announced_length total
+field1-h24-requires c = search rules
+
+pub field1-h25-requires : goal.field1-h25-requires
+unfolding announced_length total
+field1-h25-requires c = search rules

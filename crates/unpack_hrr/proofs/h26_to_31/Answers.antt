@@ -30,3 +30,23 @@ pub returns : goal.returns
 unfolding total
 returns c =
     onward (onward (onward (onward (onward c.field1-h27.ensures c.field1-h28.ensures) c.field4-h29.ensures) c.field1-h30.ensures) c.field4-h31.ensures) c.field4.ensures
+
+pub field1-h27-requires : goal.field1-h27-requires
+unfolding announced_length total
+field1-h27-requires c = search rules
+
+pub field1-h28-requires : goal.field1-h28-requires
+unfolding announced_length total
+field1-h28-requires c = search rules
+
+pub field4-h29-requires : goal.field4-h29-requires
+unfolding announced_length total
+field4-h29-requires c = search rules
+
+pub field1-h30-requires : goal.field1-h30-requires
+unfolding announced_length total
+field1-h30-requires c = search rules
+
+pub field4-h31-requires : goal.field4-h31-requires
+unfolding announced_length total
+field4-h31-requires c = search rules

@@ -30,3 +30,23 @@ pub returns : goal.returns
 unfolding total
 returns c =
     onward (onward (onward (onward (onward c.field2-h3.ensures c.field2-h4.ensures) c.field1-h5.ensures) c.field2-h6.ensures) c.field2-h7.ensures) c.field2.ensures
+
+pub field2-h3-requires : goal.field2-h3-requires
+unfolding announced_length total
+field2-h3-requires c = search rules
+
+pub field2-h4-requires : goal.field2-h4-requires
+unfolding announced_length total
+field2-h4-requires c = search rules
+
+pub field1-h5-requires : goal.field1-h5-requires
+unfolding announced_length total
+field1-h5-requires c = search rules
+
+pub field2-h6-requires : goal.field2-h6-requires
+unfolding announced_length total
+field2-h6-requires c = search rules
+
+pub field2-h7-requires : goal.field2-h7-requires
+unfolding announced_length total
+field2-h7-requires c = search rules

@@ -30,3 +30,23 @@ pub returns : goal.returns
 unfolding total
 returns c =
     onward (onward (onward (onward (onward c.field2-h9.ensures c.field1-h10.ensures) c.field1-h11.ensures) c.field2-h12.ensures) c.field2-h13.ensures) c.field4.ensures
+
+pub field2-h9-requires : goal.field2-h9-requires
+unfolding announced_length total
+field2-h9-requires c = search rules
+
+pub field1-h10-requires : goal.field1-h10-requires
+unfolding announced_length total
+field1-h10-requires c = search rules
+
+pub field1-h11-requires : goal.field1-h11-requires
+unfolding announced_length total
+field1-h11-requires c = search rules
+
+pub field2-h12-requires : goal.field2-h12-requires
+unfolding announced_length total
+field2-h12-requires c = search rules
+
+pub field2-h13-requires : goal.field2-h13-requires
+unfolding announced_length total
+field2-h13-requires c = search rules
