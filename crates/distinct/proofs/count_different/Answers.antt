@@ -5,7 +5,6 @@ use native.Mathlib.Nat.{le_of_eq, add-zero}
 use native.Mathlib.Omega.{arith}
 use mathlib.Core.Path.{◌≡◌, refl, sym, ap, ◌∙◌}
 use mathlib.Core.Bool.{Bool, true, false, not, cond, true≢false, false≢true}
-use mathlib.Core.Logic.{⊎_elim}
 use borrow.Author.Rules.{scaled_Fits}
 use lib.Dec.{eqb}
 use lib.ListN.{length, get_or, drop, length-drop}
@@ -13,6 +12,7 @@ use lib.Seq.{take_all}
 use Rattle.distinct.specs.Distinct.{is_among}
 use Rattle.distinct.proofs.Turns.{counted_start, counted-turn, counted-end}
 use Rattle.distinct.proofs.count_different.Goals as goal
+use Rattle.distinct.proofs.count_different.Goals.{then-not-is_among, else-not-is_among}
 
 pub loop-i-init : goal.loop-i-init
 loop-i-init c = counted_start c.args.s.now
@@ -30,14 +30,14 @@ pub overflow_add-n : goal.overflow_add-n
 overflow_add-n c = omega (arith, c.loop-i.invariant.few)
 
 -- a number counts where it is not among those behind it
-counts : (n : ℕ) (b : Bool) → not b ≡ true → n + 1 ≡ n + cond b 0 1
-counts n true e = absurd (false≢true e)
+counts : (n : ℕ) (b : Bool) → b ≡ false → n + 1 ≡ n + cond b 0 1
+counts n true e = absurd (true≢false e)
 counts n false e = refl
 
 -- and nothing where it is
-repeats : (n : ℕ) (b : Bool) → not b ≡ false → n ≡ n + cond b 0 1
+repeats : (n : ℕ) (b : Bool) → b ≡ true → n ≡ n + cond b 0 1
 repeats n true e = sym (add-zero n)
-repeats n false e = absurd (true≢false e)
+repeats n false e = absurd (false≢true e)
 
 pub loop-i-preserved : goal.loop-i-preserved
 loop-i-preserved c =
@@ -45,7 +45,10 @@ loop-i-preserved c =
     let behind = take_all (length s - (c.loop-i.i + 1)) (drop (c.loop-i.i + 1) s) (le_of_eq (length-drop (c.loop-i.i + 1) s)) in
     counted-turn s c.loop-i.n c.loop-i.i c.if-not-is_among.n c.is_among.result (omega arith)
     (c.is_among.ensures ∙ ap (is_among eqb (get_or s c.loop-i.i 0)) behind)
-    (⊎_elim (λ w. w.1 ∙ counts c.loop-i.n c.is_among.result w.0.taken) (λ w. w.1 ∙ repeats c.loop-i.n c.is_among.result w.0.left) c.if-not-is_among.branch)
+    (elim c.if-not-is_among.branch [
+      then-not-is_among w ↦ w.n-is ∙ counts c.loop-i.n c.is_among.result w.if-not-is_among.true
+    | else-not-is_among w ↦ w.n-is ∙ repeats c.loop-i.n c.is_among.result w.if-not-is_among.false
+    ])
     c.loop-i.invariant
 
 pub returns : goal.returns

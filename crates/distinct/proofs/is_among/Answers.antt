@@ -3,7 +3,6 @@
 use Prim.Native.Nat.{◌-◌}
 use mathlib.Core.Path.{◌≡◌, refl, sym, ◌∙◌}
 use mathlib.Core.Bool.{◌||◌, or-true, or-false}
-use mathlib.Core.Logic.{⊎_elim}
 use borrow.Author.Rules.{scaled_Fits}
 use borrow.Author.Tests.{eq-eqb, ne_eqb}
 use lib.Dec.{eqb}
@@ -11,7 +10,7 @@ use native.Mathlib.Omega.{arith}
 use lib.ListN.{length, get_or}
 use Rattle.distinct.proofs.Turns.{seen-turn, seen_end}
 use Rattle.distinct.proofs.is_among.Goals as goal
-use Rattle.distinct.proofs.is_among.Goals.{Joined-x-s}
+use Rattle.distinct.proofs.is_among.Goals.{Joined-x-s, then-x-s, else-x-s}
 
 pub loop-i-init : goal.loop-i-init
 loop-i-init c = (omega arith, refl)
@@ -24,10 +23,10 @@ seen-is : (c : Joined-x-s) → c.if-x-s.seen ≡ (c.loop-i.seen || eqb c.args.x 
 seen-is c =
     let x = c.args.x in
     let y = get_or c.args.s.now c.loop-i.i 0 in
-    ⊎_elim
-    (λ w. rw (eq-eqb x y w.0.taken) (w.1 ∙ sym (or-true c.loop-i.seen)))
-    (λ w. rw (ne_eqb x y w.0.left) (w.1 ∙ sym (or-false c.loop-i.seen)))
-    c.if-x-s.branch
+    elim c.if-x-s.branch [
+      then-x-s w ↦ rw (eq-eqb x y w.if-x-s.true) (w.seen-is ∙ sym (or-true c.loop-i.seen))
+    | else-x-s w ↦ rw (ne_eqb x y w.if-x-s.false) (w.seen-is ∙ sym (or-false c.loop-i.seen))
+    ]
 
 pub loop-i-preserved : goal.loop-i-preserved
 loop-i-preserved c =

@@ -1,20 +1,19 @@
 -- `mask::is_placed` meets its contract. The two pairs, by the ways of the tests.
 -- Assumes nothing.
 use mathlib.Core.Path.{◌≡◌, sym, ◌∙◌}
-use mathlib.Core.Logic.{⊎_elim}
 use mathlib.Core.Bool.{◌&&◌}
 use Rattle.mask.specs.Fields.{announced}
 use Rattle.mask.specs.Mask.{is_placed}
 use Rattle.mask.proofs.is_placed.Goals as goal
-use Rattle.mask.proofs.is_placed.Goals.{Joined-has}
+use Rattle.mask.proofs.is_placed.Goals.{Joined-has, then-has, else-has}
 
 -- the value of the first pair's test
 pair_is : (c : Joined-has) → c.if-has.value ≡ (announced c.args.mask 33 && announced c.args.mask 34)
 pair_is c =
-    ⊎_elim
-    (λ w. rw (sym c.has.ensures ∙ w.0.taken) (w.2 ∙ w.1.ensures))
-    (λ w. rw (sym c.has.ensures ∙ w.0.left) (w.1 ∙ w.0.left))
-    c.if-has.branch
+    elim c.if-has.branch [
+      then-has w ↦ rw (sym c.has.ensures ∙ w.if-has.true) (w.value-is ∙ w.has-then-has.ensures)
+    | else-has w ↦ rw (sym c.has.ensures ∙ w.if-has.false) (w.value-is ∙ w.if-has.false)
+    ]
 
 pub returns-then-has-2 : goal.returns-then-has-2
 unfolding is_placed

@@ -11,7 +11,7 @@ both : (c : After-wrapping_sub_u8-control) → let above = c.wrapping_sub_u8-abo
 both c =
     let first = c.wrapping_sub_u8-above in
     let second = c.wrapping_sub_u8-control in
-    text-within c.args.c first.result second.result (omega arith) first.ensures (omega arith) second.ensures
+    text-within c.args.c first.result second.result (omega arith) first.ensures.value (omega arith) second.ensures.value
 
 pub returns-then-printable-control : goal.returns-then-printable-control
 returns-then-printable-control c =
