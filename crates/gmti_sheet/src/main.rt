@@ -6,6 +6,7 @@ ghost use Rattle.std.specs.Prelude.{◌≡◌, cond, [], ◌∷◌, ◌≤◌, l
 ghost use Rattle.format.specs.Writer.{is_same};
 
 use format::Answer;
+use std::env::{Env, FillError};
 
 // The edition that a word names, and 0, which is none, for any other word.
 fn edition_of(word: &[u8]) -> u32
@@ -21,14 +22,14 @@ fn edition_of(word: &[u8]) -> u32
     if letter == b'3' { 3 } else { 0 }
 }
 
-// The edition of the program's one argument.
-fn edition_asked() -> u32 {
+// The edition of the program's one argument. Two bytes are room for a word of one letter, and tell that a word is longer.
+fn edition_asked(rt: &impl Env) -> u32 {
     let mut word = [0u8; 2];
-    let n = os::arg(1, &mut word);
-    if os::arg_count() == 2 {
-        edition_of(&word[..n])
-    } else {
-        0
+    let mut next = [0u8; 2];
+    let asked = rt.arg(1, &mut word);
+    match (asked, rt.arg(2, &mut next)) {
+        (Ok(n), Err(FillError::NotPresent)) => edition_of(&word[..n]),
+        _ => 0,
     }
 }
 

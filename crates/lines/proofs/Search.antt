@@ -1,15 +1,6 @@
 -- The search for a byte: at the end, where it is found, and one place further.
 -- Assumes nothing.
-use mathlib.Core.Path.{◌≡◌}
-use mathlib.Core.Bool.{Bool, true, false, cond}
-use mathlib.Core.List.{List, [], ◌∷◌}
-use Prim.Native.Nat.{ℕ, suc, ◌+◌, ◌≤◌, ◌<◌, zero-le}
-use native.Mathlib.Numerals.{add-one}
-use native.Mathlib.Omega.{arith}
-use borrow.Author.Tests.{eq-eqb, ne_eqb}
-use lib.Dec.{eqb}
-use lib.ListN.{length, get_or, drop, drop_of_length-le}
-use lib.Seq.{drop-cons}
+use Rattle.std.proofs.Common.{◌≡◌, ℕ, suc, Bool, true, false, cond, List, [], ◌∷◌, ◌+◌, ◌≤◌, ◌<◌, eqb, length, get_or, drop, zero-le, add-one, arith, eq-eqb, ne_eqb, drop_of_length-le, drop-cons}
 use Rattle.lines.specs.Lines.{before}
 
 module _ (b : ℕ) (s : List ℕ) (i : ℕ) where

@@ -4,6 +4,8 @@
 ghost use Rattle.std.specs.Prelude.{◌≡◌, ℕ, ◌+◌, ◌-◌, ◌≤◌, length, take, drop};
 ghost use Rattle.lines.specs.Lines.{before, HeldWithin, NextWithin, StepWithin};
 
+use std::io;
+
 // What is to be read behind what is held.
 #[derive(Clone, Copy)]
 pub enum Rest {
@@ -62,14 +64,12 @@ pub fn find(s: &[u8], at: usize, b: u8) -> usize
     ensures value { result ≡ at + before b (drop at s.now) }
     ensures lower_bound { (at ≤ result) × (result ≤ length s.now) }
 {
-    let mut i = at;
-    while i < s.len() {
+    for i in at..s.len() {
         if s[i] == b {
             return i;
         }
-        i += 1;
     }
-    i
+    s.len()
 }
 
 // Moves the bytes from `from` to `end` to the front; answers how many they are.
@@ -78,12 +78,8 @@ fn to_front(b: &mut [u8], from: usize, end: usize) -> usize
     ensures value { result ≡ end - from }
     ensures b_after { take result b.new ≡ take result (drop from b.old) }
 {
-    let n = end - from;
-    for i in 0..n {
-        let at = from + i;
-        b[i] = b[at];
-    }
-    n
+    b.copy_within(from..end, 0);
+    end - from
 }
 
 fn whole_line(from: usize, to: usize, end: usize) -> Step
@@ -128,14 +124,13 @@ fn at_end(end: usize) -> Step
 }
 
 // The line whose first bytes, without a line feed, are the first `front` of b. The rest is read, and only what is new is searched.
-fn read_line(what: &[u8], b: &mut [u8], front: usize) -> Step
+fn read_line(rt: &(impl io::Input + Eprint), what: &[u8], b: &mut [u8], front: usize) -> Step
     requires { front ≤ length b.old }
     ensures { StepWithin (length b.new) result }
 {
     let mut end = front;
     while end < b.len() {
-        let got = streams::read_some(what, &mut b[end..]);
-        match got {
+        match streams::read_some(rt, what, &mut b[end..]) {
             streams::Got::Bytes(n) => {
                 let read = end + n;
                 let to = find(&b[..read], end, b'\n');
@@ -156,7 +151,13 @@ fn read_line(what: &[u8], b: &mut [u8], front: usize) -> Step
 }
 
 // The line that begins at `from`.
-fn line_from(what: &[u8], b: &mut [u8], from: usize, end: usize) -> Step
+fn line_from(
+    rt: &(impl io::Input + Eprint),
+    what: &[u8],
+    b: &mut [u8],
+    from: usize,
+    end: usize,
+) -> Step
     requires { (from ≤ end) × (end ≤ length b.old) }
     ensures { StepWithin (length b.new) result }
 {
@@ -165,22 +166,20 @@ fn line_from(what: &[u8], b: &mut [u8], from: usize, end: usize) -> Step
         return whole_line(from, to, end);
     }
     let front = to_front(b, from, end);
-    read_line(what, b, front)
+    read_line(rt, what, b, front)
 }
 
-// The line behind one that was cut, whose rest goes unread. As in `streams`, the turns are counted down so that the loop is seen to end.
-fn line_behind(what: &[u8], b: &mut [u8]) -> Step
+// The line behind one that was cut, whose rest goes unread. As in `streams`, the loop has more turns than any run uses up.
+fn line_behind(rt: &(impl io::Input + Eprint), what: &[u8], b: &mut [u8]) -> Step
     requires { 1 ≤ length b.old }
     ensures { StepWithin (length b.new) result }
 {
-    let mut turns = u64::MAX;
-    while turns > 0 {
-        let got = streams::read_some(what, b);
-        match got {
+    for _ in 0..u64::MAX {
+        match streams::read_some(rt, what, b) {
             streams::Got::Bytes(n) => {
                 let to = find(&b[..n], 0, b'\n');
                 if to < n {
-                    return line_from(what, b, to + 1, n);
+                    return line_from(rt, what, b, to + 1, n);
                 }
             }
             streams::Got::End => {
@@ -190,24 +189,18 @@ fn line_behind(what: &[u8], b: &mut [u8]) -> Step
                 return last(Next::Failed, Rest::Nothing);
             }
         }
-        turns -= 1;
     }
     last(Next::Failed, Rest::Nothing)
 }
 
 // The next line of standard input, and what is held behind it.
-pub fn next_line(what: &[u8], b: &mut [u8], h: Held) -> Step
+pub fn next_line(rt: &(impl io::Input + Eprint), what: &[u8], b: &mut [u8], h: Held) -> Step
     requires { (1 ≤ length b.old) × HeldWithin (length b.old) h }
     ensures { StepWithin (length b.new) result }
 {
-    let rest = h.rest;
-    match rest {
-        Rest::Lines => {
-            let from = h.from;
-            let end = h.end;
-            line_from(what, b, from, end)
-        }
-        Rest::CutLine => line_behind(what, b),
+    match h.rest {
+        Rest::Lines => line_from(rt, what, b, h.from, h.end),
+        Rest::CutLine => line_behind(rt, what, b),
         Rest::Nothing => last(Next::End, Rest::Nothing),
     }
 }

@@ -12,7 +12,7 @@ use Rattle.streams.specs.declared.Input.TheVariants.{Read, Lost}
 abbrev pub CallWithin : ℕ → Call → Type 0
 CallWithin n (Moved k) = k ≤ n
 CallWithin n Interrupted = Unit {0}
-CallWithin n Error = Unit {0}
+CallWithin n (Error _) = Unit {0}
 
 -- one byte at least, and no more than there is room for
 abbrev pub GotWithin : ℕ → Got → Type 0

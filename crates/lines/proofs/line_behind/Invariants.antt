@@ -1,11 +1,6 @@
--- `lines::line_behind` meets its contract. The loop keeps the length of what is lent; its turns fall.
--- Assumes nothing.
-use mathlib.Core.Path.{◌≡◌}
-use lib.ListN.{length}
+-- The turns keep how long b is.
+use Rattle.std.proofs.Common.{◌≡◌, length}
 use Rattle.lines.proofs.line_behind.Given as goal
 
-abbrev pub invariant-loop-turns : goal.invariant-loop-turns
-invariant-loop-turns l = length l.b ≡ length l.initial.b
-
-abbrev pub decreases-loop-turns : goal.decreases-loop-turns
-decreases-loop-turns l = l.turns
+abbrev pub invariant-loop : goal.invariant-loop
+invariant-loop g l = length l.b ≡ length l.fn.b

@@ -1,12 +1,9 @@
--- `lines::read_line` meets its contract. What is held lies within what is lent, and each turn reads a byte at least.
--- Assumes nothing.
-use Prim.Native.Nat.{◌≤◌, ◌-◌}
-use mathlib.Core.Path.{◌≡◌}
-use lib.ListN.{length}
+-- What was read lies within b, and each turn reads a byte at least.
+use Rattle.std.proofs.Common.{◌≡◌, ◌≤◌, ◌-◌, length}
 use Rattle.lines.proofs.read_line.Given as goal
 
 abbrev pub invariant-loop-end : goal.invariant-loop-end
-invariant-loop-end l = (l.end ≤ length l.b) × (length l.b ≡ length l.initial.b)
+invariant-loop-end g l = (l.end ≤ length l.b) × (length l.b ≡ length l.fn.b)
 
 abbrev pub decreases-loop-end : goal.decreases-loop-end
-decreases-loop-end l = length l.b - l.end
+decreases-loop-end g l = length l.initial.b - l.end
