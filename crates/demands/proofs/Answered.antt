@@ -47,9 +47,9 @@ module _ (settings : Settings) (l lent : List ℕ) where
       fits : (b : Bool) → leb (length (sheet settings l)) (length lent) ≡ b
           → Reads settings l lent (answered (cond b (Accepted (length found) (dwells_in found) (targets_in found) (length (sheet settings l))) (Refused 16 0 0)))
       fits true t = Reads.set_out {ss = found} (record { header = h; segments = s; end = leb-true _ _ t })
-      fits false t = Reads.Turned-down (of_end h s (leb-false _ _ t))
+      fits false t = Reads.turned_down (of_end h s (leb-false _ _ t))
   segments-read h (Failed number field) s =
-      rw add-one (Reads.Turned-down (of_segment h s.1 s.2 s.3))
+      rw add-one (Reads.turned_down (of_segment h s.1 s.2 s.3))
 
   -- and by the header's first row
   pub reads : Reads settings l lent (read settings l lent)
@@ -59,7 +59,7 @@ module _ (settings : Settings) (l lent : List ℕ) where
       go : (c : Check) → first_row (header_rows settings l) ≡ c
           → Reads settings l lent (answered (answer_by c (parsed settings l) (length (sheet settings l)) (length lent)))
       go Passed e = segments-read e (parsed settings l).ending stopped
-      go (Failed number field) e = Reads.Turned-down (of_header e)
+      go (Failed number field) e = Reads.turned_down (of_header e)
 
   -- an accepted packet is one to which no row applies
   accepted-no-row : is_accepted (read settings l lent).answer ≡ true → (ss : List Segment) × NoRow settings l (length lent) ss
@@ -67,7 +67,7 @@ module _ (settings : Settings) (l lent : List ℕ) where
     where
       go : {o : Outcome} → Reads settings l lent o → is_accepted o.answer ≡ true → (ss : List Segment) × NoRow settings l (length lent) ss
       go (Reads.set_out {ss} n) e = (ss, n)
-      go (Reads.Turned-down f) e = absurd (true≢false (sym e))
+      go (Reads.turned_down f) e = absurd (true≢false (sym e))
 
 -- the writer answers by the first of its rows
 pub writes : (x lent : List ℕ) → Writes x lent (write x lent)
@@ -80,7 +80,7 @@ writes x lent = go (first_row (writer_rows x (length lent))) refl
     go : (c : Check) → first_row (writer_rows x (length lent)) ≡ c
         → Writes x lent (answered (writer_answer x c))
     go Passed e = Writes.set_out e
-    go (Failed number field) e = Writes.Turned-down e
+    go (Failed number field) e = Writes.turned_down e
 
 pub demand-1 : Demand1
 demand-1 = record {
