@@ -1,8 +1,8 @@
 -- `sheet_walk::are_few` meets its contract: the records passed so far are scatterers.
 -- Assumes nothing.
 use mathlib.Core.Path.{refl, sym, ap, ◌∙◌}
-use mathlib.Core.Bool.{true, true≢false}
-use Prim.Native.Nat.{◌+◌, ◌-◌, ◌≤◌}
+use mathlib.Core.Bool.{true≢false}
+use Prim.Native.Nat.{◌+◌, ◌≤◌}
 use native.Mathlib.Omega.{arith}
 use borrow.Author.Tests.{eq-eqb, eqb-true}
 use lib.ListN.{length}
@@ -10,19 +10,16 @@ use Rattle.format.specs.Lengths.{record_length}
 use Rattle.sheet_walk.specs.InnerShape.{is_begun_at}
 use Rattle.sheet_walk.proofs.Runs.{one_more}
 use Rattle.sheet_walk.proofs.are_few.Goals as goal
-use Rattle.sheet_walk.proofs.are_few.Goals.{After-shared_slice_known-1}
+use Rattle.sheet_walk.proofs.are_few.Goals.{In-loop-i}
 
 pub loop-i-init : goal.loop-i-init
 loop-i-init c = (c.requires, omega arith, omega arith, λ j h. absurd (omega arith))
 
 -- the record in a turn lies within x
-within : (c : After-shared_slice_known-1) → c.loop-i.at + record_length 12 ≤ length c.args.x.now
+within : (c : In-loop-i) → c.loop-i.at + record_length 12 ≤ length c.args.x.now
 within c =
     let l = c.loop-i in
     omega (arith, l.invariant.0, l.invariant.2, c.loop-i-test.true)
-
-pub bounds-x-at : goal.bounds-x-at
-bounds-x-at c = omega (arith, within (goal.at.bounds-x-at c).After-shared_slice_known-1)
 
 pub returns-then-x-at-ne-KIND : goal.returns-then-x-at-ne-KIND
 returns-then-x-at-ne-KIND c =
@@ -31,7 +28,7 @@ returns-then-x-at-ne-KIND c =
     (λ e. absurd (true≢false (sym e)), λ b. absurd (c.if-x-at-ne-KIND.true (eqb-true _ _ (ap (is_begun_at 12 x) l.invariant.2 ∙ b.each l.i (omega (arith, c.loop-i-test.true))))))
 
 pub overflow_add-at : goal.overflow_add-at
-overflow_add-at c = omega (arith, within (goal.at.overflow_add-at c).After-shared_slice_known-1, c.well_formed)
+overflow_add-at c = omega (arith, within (goal.at.overflow_add-at c).In-loop-i, c.well_formed)
 
 pub loop-i-preserved : goal.loop-i-preserved
 loop-i-preserved c =

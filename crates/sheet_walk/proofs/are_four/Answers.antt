@@ -3,7 +3,7 @@
 use borrow.Author.Tests.{eq-eqb, ne_eqb}
 use mathlib.Core.Path.{refl}
 use mathlib.Core.Bool.{true}
-use mathlib.Core.Logic.{inl, inr, ⊎_elim}
+use mathlib.Core.Logic.{inl, inr}
 use mathlib.Core.List.{List}
 use Prim.Native.Nat.{ℕ, ◌*◌, ◌≤◌}
 use native.Mathlib.Omega.{arith}
@@ -13,7 +13,7 @@ use Rattle.format.specs.Lengths.{record_length}
 use Rattle.sheet_walk.specs.InnerShape.{Tells}
 use Rattle.sheet_walk.proofs.Runs.{none, one_told}
 use Rattle.sheet_walk.proofs.are_four.Goals as goal
-use Rattle.sheet_walk.proofs.are_four.Goals.{Joined-x-eq-KIND, Joined-x-eq-KIND-2}
+use Rattle.sheet_walk.proofs.are_four.Goals.{Joined-x-eq-KIND, Joined-x-eq-KIND-2, then-x-eq-KIND, else-x-eq-KIND, then-x-eq-KIND-2, else-x-eq-KIND-2}
 
 -- what the tests so far tell: of one record, of two, of three
 one : (x : List ℕ) → 4 * record_length 12 ≤ length x → Tells (eqb (get_or x 0 0) 12) 12 1 x
@@ -24,13 +24,13 @@ two c =
     let x = c.args.x.now in
     let long = c.requires in
     one_told 12 x 1 (record_length 12) refl (omega (arith, long)) (one x long)
-    (⊎_elim (λ w. inl (eq-eqb (get_or x 0 0) 12 w.0.taken, w.2)) (λ w. inr (ne_eqb (get_or x 0 0) 12 w.0.left, w.1)) c.if-x-eq-KIND.branch)
+    (elim c.if-x-eq-KIND.branch [ then-x-eq-KIND w ↦ inl (eq-eqb (get_or x 0 0) 12 w.if-x-eq-KIND.true, w.value-is) | else-x-eq-KIND w ↦ inr (ne_eqb (get_or x 0 0) 12 w.if-x-eq-KIND.false, w.value-is) ])
 
 three : (c : Joined-x-eq-KIND-2) → Tells c.if-x-eq-KIND-2.value 12 3 c.args.x.now
 three c =
     let x = c.args.x.now in
     one_told 12 x 2 (2 * record_length 12) refl (omega (arith, c.requires)) (two (goal.at.Joined-x-eq-KIND-2 c).Joined-x-eq-KIND)
-    (⊎_elim (λ w. inl (w.0.taken, w.2)) (λ w. inr (w.0.left, w.1)) c.if-x-eq-KIND-2.branch)
+    (elim c.if-x-eq-KIND-2.branch [ then-x-eq-KIND-2 w ↦ inl (w.if-x-eq-KIND-2.true, w.value-is) | else-x-eq-KIND-2 w ↦ inr (w.if-x-eq-KIND-2.false, w.value-is) ])
 
 pub returns-then-x-eq-KIND-3 : goal.returns-then-x-eq-KIND-3
 returns-then-x-eq-KIND-3 c =

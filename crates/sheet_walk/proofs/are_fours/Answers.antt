@@ -1,6 +1,5 @@
 -- `sheet_walk::are_fours` meets its contract: x begins with as many scatterers as were passed.
 -- Assumes nothing.
-use borrow.Author.Tests.{not-true, not-false}
 use mathlib.Core.Path.{◌≡◌, refl, sym, ◌∙◌}
 use mathlib.Core.Bool.{true≢false}
 use mathlib.Core.List.{List}
@@ -37,7 +36,7 @@ returns-then-not-are_four c =
     let l = c.loop-i in
     let x = c.args.x.now in (
       λ e. absurd (true≢false (sym e)),
-      λ b. absurd (true≢false (sym (c.are_four.ensures.1 (rw (tail-is l.at x) (of-turn x c.args.n l.i l.at c.loop-i-test.true l.invariant.1 b))) ∙ not-true _ c.if-not-are_four.true-raw)),
+      λ b. absurd (true≢false (sym (c.are_four.ensures.1 (rw (tail-is l.at x) (of-turn x c.args.n l.i l.at c.loop-i-test.true l.invariant.1 b))) ∙ c.if-not-are_four.true)),
     )
 
 pub loop-i-preserved : goal.loop-i-preserved
@@ -46,7 +45,7 @@ loop-i-preserved c =
     let x = c.args.x.now in (
       omega (arith, c.loop-i-test.true),
       omega (arith, l.invariant.1),
-      one-turn x l.i l.at l.invariant.1 l.invariant.2 (rw (tail-is l.at x) at (c.are_four.ensures.0 (not-false _ c.if-not-are_four.false-raw))),
+      one-turn x l.i l.at l.invariant.1 l.invariant.2 (rw (tail-is l.at x) at (c.are_four.ensures.0 c.if-not-are_four.false)),
     )
 
 pub returns : goal.returns

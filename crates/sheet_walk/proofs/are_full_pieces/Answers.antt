@@ -2,9 +2,9 @@
 -- Assumes nothing.
 use mathlib.Core.Path.{◌≡◌, refl, sym, ap, ap₂, subst, ◌∙◌}
 use mathlib.Core.Logic.{inl, inr}
-use mathlib.Core.Bool.{Bool, true, false, ◌&&◌, cond, true≢false}
+use mathlib.Core.Bool.{Bool, true, false, ◌&&◌, true≢false}
 use mathlib.Core.List.{List}
-use Prim.Native.Nat.{ℕ, ◌+◌, ◌-◌, ◌*◌, ◌≤◌}
+use Prim.Native.Nat.{ℕ, ◌+◌, ◌*◌, ◌≤◌}
 use native.Mathlib.Omega.{arith}
 use lib.Bits.{bit_or}
 use lib.Dec.{eqb}
@@ -15,10 +15,6 @@ use Rattle.sheet_walk.proofs.Gathered.{or_is, is_zero}
 use Rattle.sheet_walk.proofs.Runs.{none, one_told}
 use Rattle.sheet_walk.proofs.are_full_pieces.Goals as goal
 use Rattle.sheet_walk.proofs.are_full_pieces.Goals.{In-loop-i}
-
--- what is gathered of the first i
-abbrev Gathered : List ℕ → ℕ → ℕ → Type 0
-Gathered x i seen = (b : Bool) × (seen ≡ cond b 0 1) × Tells b 6 i x
 
 -- with one more
 more : (x : List ℕ) (i at : ℕ) (b : Bool) → at ≡ i * record_length 6 → at + record_length 6 ≤ length x → Tells b 6 i x → Tells (b && is_full_at x at) 6 (i + 1) x

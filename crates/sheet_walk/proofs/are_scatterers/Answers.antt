@@ -1,6 +1,5 @@
 -- `sheet_walk::are_scatterers` meets its contract: the fours and the few behind them are all.
 -- Assumes nothing.
-use borrow.Author.Tests.{not-true, not-false}
 use mathlib.Core.Path.{◌≡◌, sym, ap, ◌∙◌}
 use mathlib.Core.Bool.{true≢false}
 use mathlib.Core.List.{List}
@@ -27,7 +26,7 @@ pub returns-then-not-are_fours : goal.returns-then-not-are_fours
 returns-then-not-are_fours c =
     let n = c.args.count in (
       λ e. absurd (true≢false (sym e)),
-      λ b. absurd (true≢false (sym (c.are_fours.ensures.1 (parted 12 (n / 4 * 4) (n % 4) c.args.x.now (rw (sym (all_of n)) at b)).0) ∙ not-true _ c.if-not-are_fours.true-raw)),
+      λ b. absurd (true≢false (sym (c.are_fours.ensures.1 (parted 12 (n / 4 * 4) (n % 4) c.args.x.now (rw (sym (all_of n)) at b)).0) ∙ c.if-not-are_fours.true)),
     )
 
 pub returns : goal.returns
@@ -37,6 +36,6 @@ returns c =
     let place : n / 4 * (4 * record_length 12) ≡ n / 4 * 4 * record_length 12 = omega arith in
     let few = c.are_few.ensures in
     let tail = rest x place in (
-      λ e. rw (all_of n) at (joined 12 (n / 4 * 4) (n % 4) x (c.are_fours.ensures.0 (not-false _ c.if-not-are_fours.false-raw)) (rw tail at (few.0 e))),
+      λ e. rw (all_of n) at (joined 12 (n / 4 * 4) (n % 4) x (c.are_fours.ensures.0 c.if-not-are_fours.false) (rw tail at (few.0 e))),
       λ b. few.1 (rw tail (parted 12 (n / 4 * 4) (n % 4) x (rw (sym (all_of n)) at b)).1),
     )

@@ -2,7 +2,6 @@
 -- Assumes nothing.
 use native.Mathlib.Omega.{arith}
 use mathlib.Core.Path.{refl, sym, ap, ◌∙◌}
-use Prim.Native.Nat.{◌-◌}
 use Rattle.format.specs.Writer.{no_header}
 use Rattle.sheet_walk.specs.InnerShape.{is_rest}
 use Rattle.sheet_walk.proofs.Places.{WholeAt, at_place}
@@ -28,8 +27,8 @@ returns-in-Cut c =
 
 -- the record in a turn
 here : (c : In-Whole)
-    → let k = c.kind-1.given.0 in
-    WholeAt c.args.x.now c.loop-kind.at k.0 k.1.0
+    → let k = c.in-Whole in
+    WholeAt c.args.x.now c.loop-kind.at k.kind k.end
 here c = at_place _ _ c.record_at.ensures c.in-Whole.is
 
 pub returns-then-kind-eq-KIND : goal.returns-then-kind-eq-KIND

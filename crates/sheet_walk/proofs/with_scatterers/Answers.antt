@@ -23,7 +23,7 @@ pub returns : goal.returns
 unfolding total
 returns c =
     let d = c.fields_length.ensures in
-    let few = c.scatterers_behind-s.ensures in (
-      (omega (arith, d.1), omega (arith, few.1), omega (arith, few.2)),
-      hrr-lead c.args.b.now c.requires _ _ c.scatterers_behind-s.result (d.0 ∙ ap (λ (k : ℕ). announced_length k 2 hrr_widths) c.mask_of.ensures) few.0 (omega (arith, c.each_of.ensures.0)),
-    )
+    let few = c.scatterers_behind-s.ensures in record {
+      bounded = (omega (arith, d.1), omega (arith, few.1), omega (arith, few.2));
+      value = hrr-lead c.args.b.now c.requires _ _ c.scatterers_behind-s.result (d.0 ∙ ap (λ (k : ℕ). announced_length k 2 hrr_widths) c.mask_of.ensures) few.0 (omega (arith, c.each_of.ensures.0));
+    }

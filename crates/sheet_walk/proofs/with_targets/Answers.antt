@@ -25,7 +25,7 @@ unfolding total
 returns c =
     let mask = c.get_u64-mask in
     let d = c.dwell_length.ensures in
-    let u = c.target_length.ensures in (
-      omega (arith, d, u, announced-le mask.result 2 dwell_widths, announced-le mask.result 32 target_widths),
-      dwell-lead c.args.b.now c.requires mask.result _ _ _ mask.ensures d c.get_u16-targets.ensures u,
-    )
+    let u = c.target_length.ensures in record {
+      bounded = omega (arith, d, u, announced-le mask.result 2 dwell_widths, announced-le mask.result 32 target_widths);
+      value = dwell-lead c.args.b.now c.requires mask.result _ _ _ mask.ensures d c.get_u16-targets.ensures u;
+    }
