@@ -11,12 +11,12 @@ use Rattle.unpack_target.proofs.behind.Goals as goal
 pub copy21-requires : goal.copy21-requires
 unfolding announced total
 copy21-requires c =
-    omega (arith, copied-needs _ c.requires c.Has-All.ensures c.if-has_all.true refl)
+    omega (arith, copied-needs _ c.requires c.has_all.ensures c.if-has_all.true refl)
 
 pub returns-then-has_all : goal.returns-then-has_all
 unfolding announced total
 returns-then-has_all c =
-    copied _ c.requires c.Has-All.ensures c.if-has_all.true refl c.copy21.ensures
+    copied _ c.requires c.has_all.ensures c.if-has_all.true refl c.copy21.ensures
 
 pub returns-else-has_all : goal.returns-else-has_all
 unfolding total

@@ -12,7 +12,7 @@ use Rattle.unpack_target.proofs.middle.Goals as goal
 pub copy16-requires : goal.copy16-requires
 unfolding announced total
 copy16-requires c =
-    omega (arith, copied-needs _ c.requires c.Has-All.ensures c.if-has_all.true refl)
+    omega (arith, copied-needs _ c.requires c.has_all.ensures c.if-has_all.true refl)
 
 -- both parts are laid out where zeros were stored: the first leaves those behind it
 pub d32_6_to_10-a-requires : goal.d32_6_to_10-a-requires
@@ -30,7 +30,7 @@ d32_11_to_15-requires c =
 pub returns-then-has_all : goal.returns-then-has_all
 unfolding announced total
 returns-then-has_all c =
-    copied _ c.requires c.Has-All.ensures c.if-has_all.true refl c.copy16.ensures
+    copied _ c.requires c.has_all.ensures c.if-has_all.true refl c.copy16.ensures
 
 pub returns-then-has_none : goal.returns-then-has_none
 unfolding announced total
@@ -53,3 +53,7 @@ has_none-requires c = search rules
 pub clear16-requires : goal.clear16-requires
 unfolding announced_length total
 clear16-requires c = search rules
+
+pub clear16-requires-else-has_none : goal.clear16-requires-else-has_none
+unfolding announced_length total
+clear16-requires-else-has_none c = search rules

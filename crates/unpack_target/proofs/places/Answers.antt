@@ -11,12 +11,12 @@ use Rattle.unpack_target.proofs.places.Goals as goal
 pub copy8-requires : goal.copy8-requires
 unfolding announced total
 copy8-requires c =
-    omega (arith, copied-needs _ c.requires c.Has-All.ensures c.if-has_all.true refl)
+    omega (arith, copied-needs _ c.requires c.has_all.ensures c.if-has_all.true refl)
 
 pub returns-then-has_all : goal.returns-then-has_all
 unfolding announced total
 returns-then-has_all c =
-    copied _ c.requires c.Has-All.ensures c.if-has_all.true refl c.copy8.ensures
+    copied _ c.requires c.has_all.ensures c.if-has_all.true refl c.copy8.ensures
 
 pub returns-then-has_none : goal.returns-then-has_none
 unfolding announced total
