@@ -1,11 +1,13 @@
 -- `checks::header_check` meets its contract. The rows of the call and of the header, in their order.
 -- Assumes nothing.
 use Prim.Native.Nat.{ℕ}
+use Rattle.std.specs.Prelude.{List}
 use mathlib.Core.Path.{◌≡◌, sym, ◌∙◌}
-use mathlib.Core.Logic.{⊎_elim}
-use borrow.Author.Tests.{lt-ltb, le-ltb, eq-eqb, ne_eqb, not-true, not-false}
+use borrow.Author.Tests.{lt-ltb, le-ltb, eq-eqb, ne_eqb}
 use lib.ListN.{length, drop}
+use mathlib.Core.Logic.{inl, inr}
 use Rattle.octets.specs.Layout.{total, value}
+use Rattle.format.specs.declared.Settings.{Settings}
 use Rattle.format.specs.declared.Check.{Check}
 use Rattle.format.specs.Packet.{is_p1, P}
 use Rattle.format.specs.Rows.{first_row, header_rows}
@@ -13,27 +15,27 @@ use Rattle.checks.proofs.header_check.Goals as goal
 use Rattle.checks.proofs.header_check.Goals.{Else-get_u32-l, Else-l-gt65536, Else-not-is_edition, Else-not-is_version}
 
 -- the first row that applies, of those from the k-th on
-abbrev from : ℕ → Start → Check
-from k c = first_row (drop k (header_rows c.args.settings c.args.l.now))
+abbrev from : ℕ → Settings → List ℕ → Check
+from k settings l = first_row (drop k (header_rows settings l))
 
 -- row 1 does not apply
-past-1 : (c : Else-not-is_edition) → from 0 c ≡ from 1 c
+past-1 : (c : Else-not-is_edition) → from 0 c.args.settings c.args.l.now ≡ from 1 c.args.settings c.args.l.now
 unfolding first_row header_rows
-past-1 c = rw (sym c.is_edition.ensures ∙ not-false _ c.if-not-is_edition.false-raw)
+past-1 c = rw (sym c.is_edition.ensures ∙ c.if-not-is_edition.false)
 
 -- nor does row 2
-past-2 : (c : Else-l-gt65536) → from 0 c ≡ from 2 c
+past-2 : (c : Else-l-gt65536) → from 0 c.args.settings c.args.l.now ≡ from 2 c.args.settings c.args.l.now
 unfolding first_row header_rows
 past-2 c =
-    past-1 (goal.at.Else-l-gt65536 c).Else-not-is_edition ∙ rw (le-ltb (length c.args.l.now) 32 c.if-l-lt32.false, c.if-l-gt65536.false-raw)
+    past-1 (goal.at.Else-l-gt65536 c).Else-not-is_edition ∙ rw (le-ltb (length c.args.l.now) 32 c.if-l-lt32.false, le-ltb 65536 (length c.args.l.now) c.if-l-gt65536.false)
 
 -- nor row 3
-past-3 : (c : Else-not-is_version) → from 0 c ≡ from 3 c
+past-3 : (c : Else-not-is_version) → from 0 c.args.settings c.args.l.now ≡ from 3 c.args.settings c.args.l.now
 unfolding first_row header_rows is_p1
-past-3 c = past-2 (goal.at.Else-not-is_version c).Else-l-gt65536 ∙ rw (sym c.is_version.ensures ∙ not-false _ c.if-not-is_version.false-raw)
+past-3 c = past-2 (goal.at.Else-not-is_version c).Else-l-gt65536 ∙ rw (sym c.is_version.ensures ∙ c.if-not-is_version.false)
 
 -- nor row 4
-past-4 : (c : Else-get_u32-l) → from 0 c ≡ from 4 c
+past-4 : (c : Else-get_u32-l) → from 0 c.args.settings c.args.l.now ≡ from 4 c.args.settings c.args.l.now
 unfolding first_row header_rows value total
 past-4 c =
     let l = c.args.l.now in
@@ -41,7 +43,7 @@ past-4 c =
 
 pub returns-then-not-is_edition : goal.returns-then-not-is_edition
 unfolding first_row header_rows
-returns-then-not-is_edition c = rw (sym c.is_edition.ensures ∙ not-true _ c.if-not-is_edition.true-raw)
+returns-then-not-is_edition c = rw (sym c.is_edition.ensures ∙ c.if-not-is_edition.true)
 
 pub returns-then-l-lt32 : goal.returns-then-l-lt32
 unfolding first_row header_rows
@@ -49,14 +51,11 @@ returns-then-l-lt32 c =
     let n = length c.args.l.now in
     sym
     (past-1 (goal.at.returns-then-l-lt32 c).Else-not-is_edition
-    ∙ ⊎_elim
-    (λ w. rw (lt-ltb n 32 w.taken))
-    (λ w. rw (le-ltb n 32 w.0.left, w.1.taken))
-    c.then-l-lt32.branch)
+    ∙ elim c.then-l-lt32.either [ inl h ↦ rw (lt-ltb n 32 h) | inr h ↦ rw (le-ltb n 32 h.0, lt-ltb 65536 n h.1) ])
 
 pub returns-then-not-is_version : goal.returns-then-not-is_version
 unfolding first_row header_rows is_p1
-returns-then-not-is_version c = sym (past-2 (goal.at.returns-then-not-is_version c).Else-l-gt65536 ∙ rw (sym c.is_version.ensures ∙ not-true _ c.if-not-is_version.true-raw))
+returns-then-not-is_version c = sym (past-2 (goal.at.returns-then-not-is_version c).Else-l-gt65536 ∙ rw (sym c.is_version.ensures ∙ c.if-not-is_version.true))
 
 pub returns-then-get_u32-l : goal.returns-then-get_u32-l
 unfolding first_row header_rows value total

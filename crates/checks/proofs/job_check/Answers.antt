@@ -1,33 +1,35 @@
 -- `checks::job_check` meets its contract. The rows of a job definition's body, in their order.
 -- Assumes nothing.
 use Prim.Native.Nat.{ℕ}
+use Rattle.std.specs.Prelude.{List}
 use native.Mathlib.Omega.{arith}
 use mathlib.Core.Path.{◌≡◌, sym, ◌∙◌}
-use mathlib.Core.Logic.{⊎_elim}
-use borrow.Author.Tests.{eq-eqb, ne_eqb, not-true, not-false}
+use borrow.Author.Tests.{eq-eqb, ne_eqb}
 use lib.ListN.{drop}
 use Rattle.octets.specs.Layout.{total, field, value}
 use Rattle.text.specs.Text.{text_fault}
+use Rattle.format.specs.declared.Reading.{Reading}
 use Rattle.format.specs.declared.Check.{Check}
 use Rattle.format.specs.Packet.{s2}
 use Rattle.format.specs.Rows.{first_row, job_rows}
 use Rattle.octets.proofs.Laws.{one_byte}
 use Rattle.checks.proofs.job_check.Goals as goal
+use Rattle.checks.proofs.job_check.Goals.{else-is_older-via-then-is_older+else-is_new_mode, else-is_older-via-else-is_older}
 use Rattle.checks.proofs.job_check.Goals.{Else-b-ne68, Else-not-is_line}
 
 -- the first row that applies, of those from the k-th on
-abbrev from : ℕ → Start → Check
-from k c = first_row (drop k (job_rows c.args.r c.args.b.now))
+abbrev from : ℕ → Reading → List ℕ → Check
+from k r b = first_row (drop k (job_rows r b))
 
 -- row 9 does not apply
-past-9 : (c : Else-b-ne68) → from 0 c ≡ from 1 c
+past-9 : (c : Else-b-ne68) → from 0 c.args.r c.args.b.now ≡ from 1 c.args.r c.args.b.now
 unfolding first_row job_rows
 past-9 c = rw (eq-eqb (s2 c.args.b.now) 73 (omega arith))
 
 -- nor does row 10
-past-10 : (c : Else-not-is_line) → from 0 c ≡ from 2 c
+past-10 : (c : Else-not-is_line) → from 0 c.args.r c.args.b.now ≡ from 2 c.args.r c.args.b.now
 unfolding first_row job_rows text_fault field total
-past-10 c = past-9 (goal.at.Else-not-is_line c).Else-b-ne68 ∙ rw (sym c.is_line.ensures ∙ not-false _ c.if-not-is_line.false-raw)
+past-10 c = past-9 (goal.at.Else-not-is_line c).Else-b-ne68 ∙ rw (sym c.is_line.ensures ∙ c.if-not-is_line.false)
 
 pub returns-then-b-ne68 : goal.returns-then-b-ne68
 unfolding first_row job_rows
@@ -35,7 +37,7 @@ returns-then-b-ne68 c = rw (ne_eqb (s2 c.args.b.now) 73 (λ e. c.if-b-ne68.true 
 
 pub returns-then-not-is_line : goal.returns-then-not-is_line
 unfolding first_row job_rows text_fault field total
-returns-then-not-is_line c = sym (past-9 (goal.at.returns-then-not-is_line c).Else-b-ne68 ∙ rw (sym c.is_line.ensures ∙ not-true _ c.if-not-is_line.true-raw))
+returns-then-not-is_line c = sym (past-9 (goal.at.returns-then-not-is_line c).Else-b-ne68 ∙ rw (sym c.is_line.ensures ∙ c.if-not-is_line.true))
 
 pub returns-then-is_new_mode : goal.returns-then-is_new_mode
 unfolding first_row job_rows value total
@@ -50,7 +52,8 @@ returns c =
     let older = sym c.is_older.ensures in
     sym
     (past-10 (goal.at.returns c).Else-not-is_line
-    ∙ ⊎_elim
-    (λ w. rw (older ∙ w.0.taken, one_byte 45 c.args.b.now, sym w.2.ensures ∙ w.3.left))
-    (λ w. rw (older ∙ w.left))
-    c.else-is_older.branch)
+    ∙ elim c.else-is_older.branch [
+      | else-is_older-via-then-is_older+else-is_new_mode w ↦
+          rw (older ∙ w.if-is_older.true, one_byte 45 c.args.b.now, sym w.is_new_mode.ensures ∙ w.if-is_new_mode.false)
+      | else-is_older-via-else-is_older w ↦ rw (older ∙ w.if-is_older.false)
+    ])

@@ -1,9 +1,10 @@
 -- `checks::mission_check` meets its contract. The rows of a mission's body, in their order.
 -- Assumes nothing.
 use Prim.Native.Nat.{ℕ}
+use Rattle.std.specs.Prelude.{List}
 use native.Mathlib.Omega.{arith}
 use mathlib.Core.Path.{◌≡◌, sym, ◌∙◌}
-use borrow.Author.Tests.{eq-eqb, ne_eqb, not-true, not-false}
+use borrow.Author.Tests.{eq-eqb, ne_eqb}
 use lib.ListN.{drop}
 use Rattle.octets.specs.Layout.{total, value}
 use Rattle.format.specs.declared.Check.{Check}
@@ -14,26 +15,26 @@ use Rattle.checks.proofs.mission_check.Goals as goal
 use Rattle.checks.proofs.mission_check.Goals.{Else-b-ne39, Else-fault-ne0, Else-not-is_between}
 
 -- the first row that applies, of those from the k-th on
-abbrev from : ℕ → Start → Check
-from k c = first_row (drop k (mission_rows c.args.b.now))
+abbrev from : ℕ → List ℕ → Check
+from k b = first_row (drop k (mission_rows b))
 
 -- row 9 does not apply
-past-9 : (c : Else-b-ne39) → from 0 c ≡ from 1 c
+past-9 : (c : Else-b-ne39) → from 0 c.args.b.now ≡ from 1 c.args.b.now
 unfolding first_row mission_rows
 past-9 c = rw (eq-eqb (s2 c.args.b.now) 44 (omega arith))
 
 -- nor does row 10
-past-10 : (c : Else-fault-ne0) → from 0 c ≡ from 2 c
+past-10 : (c : Else-fault-ne0) → from 0 c.args.b.now ≡ from 2 c.args.b.now
 unfolding first_row mission_rows
 past-10 c =
     past-9 (goal.at.Else-fault-ne0 c).Else-b-ne39 ∙ rw (sym c.mission_text-fault.ensures, eq-eqb c.mission_text-fault.result 0 c.if-fault-ne0.false)
 
 -- nor row 13 for M6
-past-month : (c : Else-not-is_between) → from 0 c ≡ from 3 c
+past-month : (c : Else-not-is_between) → from 0 c.args.b.now ≡ from 3 c.args.b.now
 unfolding first_row mission_rows value total
 past-month c =
     past-10 (goal.at.Else-not-is_between c).Else-fault-ne0
-    ∙ rw (one_byte 37 c.args.b.now, sym c.is_between.ensures ∙ not-false _ c.if-not-is_between.false-raw)
+    ∙ rw (one_byte 37 c.args.b.now, sym c.is_between.ensures ∙ c.if-not-is_between.false)
 
 pub returns-then-b-ne39 : goal.returns-then-b-ne39
 unfolding first_row mission_rows
@@ -51,18 +52,18 @@ unfolding first_row mission_rows value total
 returns-then-not-is_between c =
     sym
     (past-10 (goal.at.returns-then-not-is_between c).Else-fault-ne0
-    ∙ rw (one_byte 37 c.args.b.now, sym c.is_between.ensures ∙ not-true _ c.if-not-is_between.true-raw))
+    ∙ rw (one_byte 37 c.args.b.now, sym c.is_between.ensures ∙ c.if-not-is_between.true))
 
 pub returns-then-not-is_between-2 : goal.returns-then-not-is_between-2
 unfolding first_row mission_rows value total
 returns-then-not-is_between-2 c =
     sym
     (past-month (goal.at.returns-then-not-is_between-2 c).Else-not-is_between
-    ∙ rw (one_byte 38 c.args.b.now, sym c.is_between-2.ensures ∙ not-true _ c.if-not-is_between-2.true-raw))
+    ∙ rw (one_byte 38 c.args.b.now, sym c.is_between-2.ensures ∙ c.if-not-is_between-2.true))
 
 pub returns : goal.returns
 unfolding first_row mission_rows value total
 returns c =
     sym
     (past-month (goal.at.returns c).Else-not-is_between
-    ∙ rw (one_byte 38 c.args.b.now, sym c.is_between-2.ensures ∙ not-false _ c.if-not-is_between-2.false-raw))
+    ∙ rw (one_byte 38 c.args.b.now, sym c.is_between-2.ensures ∙ c.if-not-is_between-2.false))

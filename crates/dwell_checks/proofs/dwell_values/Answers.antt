@@ -37,7 +37,7 @@ pub returns-then-not-is_placed : goal.returns-then-not-is_placed
 unfolding first_row dwell_rows
 returns-then-not-is_placed c = λ r.
     let e = c.requires.1 in
-    rw (d4-right (goal.at.returns-then-not-is_placed c).Else-b-gt1, sym (ap (λ (q : Plan). q.count) e), lt-ltb 0 c.args.p.count c.if-p-gt0.true, sym (ap (λ (q : Plan). q.mask) e), sym c.is_placed.ensures ∙ not-true _ c.if-not-is_placed.true-raw)
+    rw (d4-right (goal.at.returns-then-not-is_placed c).Else-b-gt1, sym (ap (λ (q : Plan). q.count) e), lt-ltb 0 c.args.p.count c.if-p-gt0.true, sym (ap (λ (q : Plan). q.mask) e), sym c.is_placed.ensures ∙ c.if-not-is_placed.true)
 
 pub targets_check-requires : goal.targets_check-requires
 targets_check-requires c =

@@ -25,13 +25,13 @@ returns-then-b-lt-MASK c = rw (lt-ltb (s2 c.args.b.now) 10 (omega arith))
 
 pub returns-then-not-is_mask : goal.returns-then-not-is_mask
 unfolding first_row hrr_rows
-returns-then-not-is_mask c = sym (past-9 (goal.at.returns-then-not-is_mask c).Else-b-lt-MASK ∙ rw (sym (mask_is (goal.at.returns-then-not-is_mask c).After-is_mask), not-true c.is_mask.result c.if-not-is_mask.true-raw))
+returns-then-not-is_mask c = sym (past-9 (goal.at.returns-then-not-is_mask c).Else-b-lt-MASK ∙ rw (sym (mask_is (goal.at.returns-then-not-is_mask c).After-is_mask), c.if-not-is_mask.true))
 
 pub size_check-requires : goal.size_check-requires
 size_check-requires c =
-    (c.mask_of-mask.ensures, sym c.is_mask.ensures ∙ not-false _ c.if-not-is_mask.false-raw, omega arith)
+    (c.mask_of-mask.ensures, sym c.is_mask.ensures ∙ c.if-not-is_mask.false, omega arith)
 
 pub returns : goal.returns
 unfolding first_row hrr_rows
 returns c =
-    c.size_check.ensures ∙ sym (past-9 (goal.at.returns c).Else-b-lt-MASK ∙ rw (sym (mask_is (goal.at.returns c).After-is_mask), not-false c.is_mask.result c.if-not-is_mask.false-raw))
+    c.size_check.ensures ∙ sym (past-9 (goal.at.returns c).Else-b-lt-MASK ∙ rw (sym (mask_is (goal.at.returns c).After-is_mask), c.if-not-is_mask.false))

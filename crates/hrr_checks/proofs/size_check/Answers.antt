@@ -59,7 +59,7 @@ widths-are c =
     (ap (λ (k : ℕ). tests (full_fields k 2 hrr_widths (drop 5 b))) c.requires.0)
 
 pub returns-then-not-are_widths : goal.returns-then-not-are_widths
-returns-then-not-are_widths c = wrong-widths _ (sym (widths-are (goal.at.returns-then-not-are_widths c).After-are_widths) ∙ not-true c.are_widths.result c.if-not-are_widths.true-raw)
+returns-then-not-are_widths c = wrong-widths _ (sym (widths-are (goal.at.returns-then-not-are_widths c).After-are_widths) ∙ c.if-not-are_widths.true)
 
 pub scatterers_in-s-requires : goal.scatterers_in-s-requires
 scatterers_in-s-requires c =
@@ -99,4 +99,4 @@ returns-then-b-start-2 c = wrong_size _ (λ e. c.if-b-start-2.true (e ∙ sym (s
 
 pub returns : goal.returns
 returns c =
-    right-size _ (sym (widths-are (goal.at.returns c).After-are_widths) ∙ not-false c.are_widths.result c.if-not-are_widths.false-raw) (c.if-b-start-2.false ∙ size_is (goal.at.returns c).After-struct_known-1)
+    right-size _ (sym (widths-are (goal.at.returns c).After-are_widths) ∙ c.if-not-are_widths.false) (c.if-b-start-2.false ∙ size_is (goal.at.returns c).After-struct_known-1)

@@ -26,7 +26,7 @@ past-6 c = rw (le-ltb (length c.args.l.now) 5 c.if-l-lt5.false)
 -- nor does row 7
 past-7 : (c : Else-not-is_known_type) → from 0 c ≡ from 2 c
 unfolding first_row segment_rows type_at
-past-7 c = past-6 (goal.at.Else-not-is_known_type c).Else-l-lt5 ∙ rw (sym c.is_known_type.ensures ∙ not-false _ c.if-not-is_known_type.false-raw)
+past-7 c = past-6 (goal.at.Else-not-is_known_type c).Else-l-lt5 ∙ rw (sym c.is_known_type.ensures ∙ c.if-not-is_known_type.false)
 
 -- nor row 8
 past-8 : (c : Else-l-size) → from 0 c ≡ from 3 c
@@ -53,7 +53,7 @@ returns-then-l-lt5 c = rw (lt-ltb (length c.args.l.now) 5 c.if-l-lt5.true)
 pub returns-then-not-is_known_type : goal.returns-then-not-is_known_type
 unfolding first_row segment_rows type_at
 returns-then-not-is_known_type c =
-    sym (past-6 (goal.at.returns-then-not-is_known_type c).Else-l-lt5 ∙ rw (sym c.is_known_type.ensures ∙ not-true _ c.if-not-is_known_type.true-raw))
+    sym (past-6 (goal.at.returns-then-not-is_known_type c).Else-l-lt5 ∙ rw (sym c.is_known_type.ensures ∙ c.if-not-is_known_type.true))
 
 pub returns-then-size-lt5 : goal.returns-then-size-lt5
 unfolding first_row segment_rows
