@@ -2,7 +2,8 @@
 // field goes in o; what a call answers has the name of the field that goes there.
 // Fields that mostly come together are copied as one block where the mask has them all, and passed over as one where it has none.
 // A function has at most six calls that store: behind more of them the prover does not find what the function requires.
-#![tactic(auto)]
+// What a call requires is found without an answer once these two definitions are open.
+#![tactic(auto, unfolding(mask::specs::Fields::announced_length, octets::specs::Layout::total))]
 
 ghost use Rattle.std.specs.Prelude.{[], ◌∷◌, ◌≤◌};
 ghost use Rattle.mask.specs.Fields.{dwell_widths, target_widths};

@@ -14,12 +14,12 @@ set = 0xFF00_0000_0000_0000
 pub copy23-requires : goal.copy23-requires
 unfolding announced total
 copy23-requires c =
-    copied-needs set c.requires c.Has-All.ensures c.if-has_all.true refl
+    copied-needs set c.requires c.has_all.ensures c.if-has_all.true refl
 
 pub returns-then-has_all : goal.returns-then-has_all
 unfolding announced total
 returns-then-has_all c =
-    copied set c.Has-All.ensures c.if-has_all.true refl c.copy23.ensures
+    copied set c.has_all.ensures c.if-has_all.true refl c.copy23.ensures
 
 pub returns-else-has_none : goal.returns-else-has_none
 unfolding total

@@ -14,12 +14,12 @@ set = 0x0000_0000_6000_0000
 pub copy4-requires : goal.copy4-requires
 unfolding announced total
 copy4-requires c =
-    copied-needs set c.requires c.Has-All.ensures c.if-has_all.true refl
+    copied-needs set c.requires c.has_all.ensures c.if-has_all.true refl
 
 pub returns-then-has_all : goal.returns-then-has_all
 unfolding announced total
 returns-then-has_all c =
-    copied set c.Has-All.ensures c.if-has_all.true refl c.copy4.ensures
+    copied set c.has_all.ensures c.if-has_all.true refl c.copy4.ensures
 
 pub returns-else-has_none : goal.returns-else-has_none
 unfolding total
