@@ -11,5 +11,5 @@ pub returns : goal.returns
 unfolding answer_line
 returns c =
     let e = c.put_answer-p.ensures in
-    let h = laid-byte (answer_text c.args.a) c.args.o.now 0 10 (e.0.0, e.1) in
-    ((h.0 ∙ zero-add _, omega arith), h.1)
+    let h = laid-byte (answer_text c.args.a) c.args.o.now 0 10 (e.value.0, e.o_after) in
+    record { value = (h.0 ∙ zero-add _, omega (arith, e.value.1)); o_after = h.1 }

@@ -8,13 +8,15 @@ use Rattle.printing.proofs.print.Goals as goal
 
 pub target_lines-requires : goal.target_lines-requires
 target_lines-requires c =
-    omega (arith, ap length c.front.ensures, length-take c.in-Accepted.length c.args.sheet.now, c.answer_line-p.ensures.0.1, c.answer_line-p.auto.0, c.requires)
+    omega (arith, ap length c.front.ensures, length-take c.in-Accepted.length c.args.sheet.now, c.answer_line-p.ensures.value.1, c.answer_line-p.auto.o, c.requires)
 
 pub returns-in-Accepted : goal.returns-in-Accepted
 returns-in-Accepted c =
-    printed-accepted c.args.sheet.now _ _ c.front.result.now c.in-Accepted.is c.front.ensures c.answer_line-p.ensures c.target_lines.ensures
+    let e = c.answer_line-p.ensures in
+    let all = printed-accepted c.args.sheet.now _ _ c.front.result.now c.in-Accepted.is c.front.ensures (e.value, e.o_after) c.target_lines.ensures in
+    record { value = all.0; o_after = all.1.0; upper_bound = all.1.1 }
 
 pub returns-in-Refused : goal.returns-in-Refused
 returns-in-Refused c =
     let e = c.answer_line-p.ensures in
-    rw (printed-refused _ _ c.in-Refused.is) (e.0.0, (e.1, omega (arith, e.0.1)))
+    rw (printed-refused _ _ c.in-Refused.is) (record { value = e.value.0; o_after = e.o_after; upper_bound = omega (arith, e.value.1) })

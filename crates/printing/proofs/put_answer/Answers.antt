@@ -2,19 +2,18 @@
 -- Assumes nothing.
 use native.Mathlib.Omega.{arith}
 use lib.ListN.{length-set}
-use mathlib.Core.Path.{◌∙◌}
 use Rattle.printing.proofs.Lines.{put-accepted, put_refused}
 use Rattle.printing.proofs.put_answer.Goals as goal
 
 pub returns-in-Accepted : goal.returns-in-Accepted
 returns-in-Accepted c =
     let h = put-accepted _ _ c.in-Accepted.is c.put_three-p.ensures c.put_spaced.ensures in
-    ((h.next, h.room), h.stored)
+    record { value = (h.next, h.room); o_after = h.stored }
 
 pub returns-in-Refused : goal.returns-in-Refused
 returns-in-Refused c =
     let h = put_refused _ _ c.in-Refused.is c.put_three.ensures in
-    ((h.next, h.room), h.stored)
+    record { value = (h.next, h.room); o_after = h.stored }
 
 pub bounds-o-at-in-Accepted : goal.bounds-o-at-in-Accepted
 bounds-o-at-in-Accepted c = simp length-set (omega arith)
@@ -27,9 +26,3 @@ bounds-o-at-in-Refused-2 c = simp length-set (omega arith)
 
 pub put_three-requires : goal.put_three-requires
 put_three-requires c = simp length-set (omega arith)
-
-pub shape_of-o-in-Accepted : goal.shape_of-o-in-Accepted
-shape_of-o-in-Accepted c = c.put_spaced.auto.0 ∙ c.put_three-p.auto.0 ∙ simp length-set
-
-pub shape_of-o-in-Refused : goal.shape_of-o-in-Refused
-shape_of-o-in-Refused c = c.put_three.auto.0 ∙ simp length-set

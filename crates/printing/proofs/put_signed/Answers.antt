@@ -1,7 +1,7 @@
 -- `printing::put_signed` meets its contract. The sign and the digits behind it, or the digits alone.
 -- Assumes nothing.
 use native.Mathlib.Omega.{arith}
-use mathlib.Core.Path.{◌≡◌, ◌∙◌}
+use mathlib.Core.Path.{◌≡◌}
 use lib.ListN.{length-set}
 use lib.IntN.{negsuc, ◌-ℤ◌}
 use mir.Syntax.{w32}
@@ -23,11 +23,15 @@ other c = plain c.args.z c.ranges.z (rw (back (goal.at.Else-z-lt0 c).Start) at c
 
 pub returns-then-z-lt0 : goal.returns-then-z-lt0
 returns-then-z-lt0 c =
-    put-sign _ _ _ _ (known (goal.at.returns-then-z-lt0 c).Then-z-lt0) (rw (back (goal.at.returns-then-z-lt0 c).Start) at c.put_decimal.ensures)
+    let e = c.put_decimal.ensures in
+    let same = back (goal.at.returns-then-z-lt0 c).Start in
+    put-sign _ _ _ _ (known (goal.at.returns-then-z-lt0 c).Then-z-lt0) (rw same at e.value, rw same at e.o_after)
 
 pub returns-else-z-lt0 : goal.returns-else-z-lt0
 returns-else-z-lt0 c =
-    put-plain _ _ _ (other (goal.at.returns-else-z-lt0 c).Else-z-lt0) (rw (back (goal.at.returns-else-z-lt0 c).Start) at c.put_decimal-else-z-lt0.ensures)
+    let e = c.put_decimal-else-z-lt0.ensures in
+    let same = back (goal.at.returns-else-z-lt0 c).Start in
+    put-plain _ _ _ (other (goal.at.returns-else-z-lt0 c).Else-z-lt0) (rw same at e.value, rw same at e.o_after)
 
 pub overflow_sub-z : goal.overflow_sub-z
 overflow_sub-z c = rw (back (goal.at.overflow_sub-z c).Start) (known (goal.at.overflow_sub-z c).Then-z-lt0).fits-down
@@ -46,6 +50,3 @@ overflow_cast-z-else-z-lt0 c = rw (back (goal.at.overflow_cast-z-else-z-lt0 c).S
 
 pub put_decimal-requires-else-z-lt0 : goal.put_decimal-requires-else-z-lt0
 put_decimal-requires-else-z-lt0 c = rw (back (goal.at.put_decimal-requires-else-z-lt0 c).Start) (omega (arith, c.requires, (other (goal.at.put_decimal-requires-else-z-lt0 c).Else-z-lt0).fits))
-
-pub shape_of-o-then-z-lt0 : goal.shape_of-o-then-z-lt0
-shape_of-o-then-z-lt0 c = c.put_decimal.auto.0 ∙ simp length-set

@@ -32,5 +32,6 @@ pub put_spaced-q-requires : goal.put_spaced-q-requires
 unfolding body_length
 put_spaced-q-requires c = search rules
 
-pub shape_of-o : goal.shape_of-o
-shape_of-o c = put_same (returns c)
+pub bounds-o-q : goal.bounds-o-q
+unfolding body_length
+bounds-o-q c = omega (arith, put_same c.put_signed-p.ensures, put_same c.put_spaced-q.ensures)

@@ -1,9 +1,7 @@
 -- `printing::target_lines` meets its contract. The loop keeps that the lines of the records left, laid out from p on, give the whole.
 -- Assumes nothing.
-use Prim.Native.Nat.{◌-◌}
 use native.Mathlib.Omega.{arith}
 use borrow.Author.Rules.{rules}
-use lib.ListN.{length}
 use Rattle.sheet_walk.proofs.Places.{WholeAt, at_place}
 use Rattle.printing.proofs.Lines.{put_same}
 use Rattle.printing.proofs.Records.{body-ends, walk_start, walk_end, walk_turn}
@@ -12,8 +10,8 @@ use Rattle.printing.proofs.target_lines.Goals.{In-Whole}
 
 -- the record in a turn that goes on
 here : (c : In-Whole)
-    → let k = c.kind-1.given.0 in
-    WholeAt c.args.x.now c.loop-kind.at k.0 k.1.0
+    → let k = c.in-Whole in
+    WholeAt c.args.x.now c.loop-kind.at k.kind k.end
 here c = at_place _ _ c.record_at.ensures c.in-Whole.is
 
 pub record_line-p-requires : goal.record_line-p-requires
@@ -51,9 +49,3 @@ slice_bounds-record_line-end c = let w = here (goal.at.slice_bounds-record_line-
 
 pub loop-kind-smaller : goal.loop-kind-smaller
 loop-kind-smaller c = let w = here (goal.at.loop-kind-smaller c).In-Whole in search rules
-
-pub shape_of-o-in-End : goal.shape_of-o-in-End
-shape_of-o-in-End c = put_same (returns c)
-
-pub shape_of-o-in-Cut : goal.shape_of-o-in-Cut
-shape_of-o-in-Cut c = put_same (returns-2 c)
