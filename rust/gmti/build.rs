@@ -22,15 +22,15 @@ fn main() {
     println!("cargo:folder={}", folder.display());
 }
 
-/// The folder where `rt staticlib gmti` leaves the library.
+/// The folder where `rt lib gmti` leaves the library.
 fn prove_and_build() -> PathBuf {
     let root = Path::new(env!("CARGO_MANIFEST_DIR")).join("../..");
     println!("cargo:rerun-if-changed=../../crates");
     println!("cargo:rerun-if-changed=../../crates.txt");
-    let built = Command::new("rt").args(["staticlib", "gmti"]).current_dir(&root).output();
+    let built = Command::new("rt").args(["lib", "gmti"]).current_dir(&root).output();
     match built {
-        Ok(output) if output.status.success() => root.join("target/staticlib"),
-        Ok(output) => panic!("rt staticlib gmti failed:\n{}", String::from_utf8_lossy(&output.stderr)),
+        Ok(output) if output.status.success() => root.join("crates/gmti/out"),
+        Ok(output) => panic!("rt lib gmti failed:\n{}", String::from_utf8_lossy(&output.stderr)),
         Err(error) => {
             panic!("the Rattle toolchain's rt did not start ({error}); set GMTI_LIBRARY_DIR to the folder of a libgmti.a instead")
         }
