@@ -6,10 +6,12 @@ use mathlib.Core.Path.{◌≡◌, sym, ap, ap₂, ◌∙◌}
 use mathlib.Core.Bool.{cond}
 use borrow.Author.Tests.{lt-ltb, le-ltb, eq-eqb, ne_eqb}
 use lib.ListN.{drop}
+use Rattle.std.specs.Prelude.{List}
 use Rattle.mask.specs.Fields.{announced, announced_length, dwell_widths}
 use Rattle.mask.specs.Mask.{lowest_fault, new_in_mask}
 use Rattle.mask.specs.InnerFields.{Required}
 use Rattle.mask.proofs.Unfaulted.{required-announced}
+use Rattle.format.specs.declared.Reading.{Reading}
 use Rattle.format.specs.declared.Check.{Check}
 use Rattle.format.specs.Packet.{s2}
 use Rattle.format.specs.Edition.{is_older}
@@ -45,7 +47,7 @@ required-there c n q = ap (λ (m : ℕ). announced m n) (mask_is (goal.at.Else-f
 
 -- the parts of the body before the targets, and where these start
 abbrev start_of : After-length_from_d24 → ℕ
-start_of c = 8 + c.before.length-before-d24.result + c.length-from-d24.result
+start_of c = 8 + c.length_before_d24-at.result + c.length_from_d24.result
 
 start_is : (c : After-length_from_d24) → start_of c ≡ 8 + announced_length (mask_of c.args.b.now) 2 dwell_widths
 start_is c =
@@ -68,22 +70,22 @@ size_fits c =
     omega (arith, size_is c, most (mask_of b) (target_count b) (omega (arith, c.target_count-count.ensures)))
 
 -- the first row that applies, of those from the k-th on
-abbrev from : ℕ → Start → Check
-from k c = first_row (drop k (dwell_rows c.args.r c.args.b.now))
+abbrev from : ℕ → Reading → List ℕ → Check
+from k r b = first_row (drop k (dwell_rows r b))
 
 -- row 9 does not apply
-past-9 : (c : Else-b-lt8) → from 0 c ≡ from 1 c
+past-9 : (c : Else-b-lt8) → from 0 c.args.r c.args.b.now ≡ from 1 c.args.r c.args.b.now
 unfolding first_row dwell_rows
 past-9 c = rw (le-ltb (s2 c.args.b.now) 13 (omega arith))
 
 -- nor does row 11
-past-11 : (c : Else-fault-ne0) → from 0 c ≡ from 2 c
+past-11 : (c : Else-fault-ne0) → from 0 c.args.r c.args.b.now ≡ from 2 c.args.r c.args.b.now
 unfolding first_row dwell_rows
 past-11 c =
     past-9 (goal.at.Else-fault-ne0 c).Else-b-lt8 ∙ rw (sym (fault-is (goal.at.Else-fault-ne0 c).After-lowest_fault-fault), eq-eqb c.lowest_fault-fault.result 0 c.if-fault-ne0.false)
 
 -- nor row 15
-past-15 : (c : Else-new-ne0) → from 0 c ≡ from 3 c
+past-15 : (c : Else-new-ne0) → from 0 c.args.r c.args.b.now ≡ from 3 c.args.r c.args.b.now
 unfolding first_row dwell_rows
 past-15 c = past-11 (goal.at.Else-new-ne0 c).Else-fault-ne0 ∙ rw (sym (new_is (goal.at.Else-new-ne0 c).After-new_field-new), eq-eqb c.new_field-new.result 0 c.if-new-ne0.false)
 

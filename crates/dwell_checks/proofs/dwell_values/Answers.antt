@@ -3,10 +3,9 @@
 use mathlib.Core.Path.{◌≡◌, sym, ap, ◌∙◌}
 use mathlib.Core.Bool.{false}
 use mathlib.Core.List.{List}
-use mathlib.Core.Logic.{⊎_elim}
 use Prim.Native.Nat.{ℕ}
 use native.Mathlib.Omega.{arith}
-use borrow.Author.Tests.{lt-ltb, le-ltb, not-true, not-false}
+use borrow.Author.Tests.{lt-ltb, le-ltb}
 use lib.Dec.{ltb}
 use lib.ListN.{get_or}
 use Rattle.mask.specs.Mask.{is_placed}
@@ -16,7 +15,7 @@ use Rattle.dwell_checks.specs.declared.Plan.{Plan}
 use Rattle.dwell_checks.proofs.Numbers.{required-length, d4-is}
 use Rattle.dwell_checks.proofs.Plans.{targets_are, targets-there}
 use Rattle.dwell_checks.proofs.dwell_values.Goals as goal
-use Rattle.dwell_checks.proofs.dwell_values.Goals.{Else-b-gt1}
+use Rattle.dwell_checks.proofs.dwell_values.Goals.{Else-b-gt1, else-p-gt0-via-then-p-gt0+else-not-is_placed, else-p-gt0-via-else-p-gt0}
 
 -- D4 is not above 1
 d4-right : (c : Else-b-gt1) → ltb 1 (D 4 (dwell_fields c.args.b.now)) ≡ false
@@ -56,7 +55,8 @@ returns c = λ r.
     ∙ ap (λ (t : List ℕ). first_row (targets_rows p.mask p.area p.count t)) (targets_are b p e)
     ∙ ap (λ (q : Plan). first_row (targets_rows q.mask q.area q.count (targets_of b))) e in
     rw (d4-right (goal.at.returns c).Else-b-gt1)
-    (⊎_elim
-    (λ w. rw (some ∙ lt-ltb 0 p.count w.0.taken, placed ∙ sym w.1.ensures ∙ not-false _ w.2.left) rest)
-    (λ w. rw (some ∙ le-ltb 0 p.count w.left) rest)
-    c.else-p-gt0.branch)
+    (elim c.else-p-gt0.branch [
+      | else-p-gt0-via-then-p-gt0+else-not-is_placed w ↦
+          rw (some ∙ lt-ltb 0 p.count w.if-p-gt0.true, placed ∙ sym w.is_placed.ensures ∙ w.if-not-is_placed.false) rest
+      | else-p-gt0-via-else-p-gt0 w ↦ rw (some ∙ le-ltb 0 p.count w.if-p-gt0.false) rest
+    ])

@@ -8,7 +8,7 @@ use Rattle.dwell_checks.proofs.is_out.Goals as goal
 
 pub returns-then-inside : goal.returns-then-inside
 returns-then-inside c =
-    sym (ap not (always-inside c.args.mask c.args.area c.args.t.now (λ i. (c.shared_slice_known-1.given i).fits) (sym c.requires.2 ∙ c.if-inside.true)))
+    sym (ap not (always-inside c.args.mask c.args.area c.args.t.now (λ i. (c.type_inv.t i).fits) (sym c.requires.2 ∙ c.if-inside.true)))
 
 pub returns-else-inside : goal.returns-else-inside
 returns-else-inside c = ap not (c.is_latitude.ensures ∙ ap is_latitude c.latitude_of.ensures)

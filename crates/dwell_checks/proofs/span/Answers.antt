@@ -7,8 +7,6 @@ use mathlib.Core.List.{◌++◌}
 use lib.ListN.{take, drop}
 use Rattle.mask.specs.Fields.{announced_length, dwell_widths, target_widths}
 use Rattle.dwell_checks.proofs.Numbers.{span-next}
-use Rattle.dwell_checks.proofs.span.Reads as reads
-use Rattle.dwell_checks.proofs.span.Lts as lts
 use Rattle.dwell_checks.proofs.span.Goals as goal
 
 pub loop-n-init : goal.loop-n-init

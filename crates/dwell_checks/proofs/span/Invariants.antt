@@ -5,8 +5,6 @@ use mathlib.Core.Path.{◌≡◌}
 use mathlib.Core.List.{◌++◌}
 use lib.ListN.{take, drop}
 use Rattle.mask.specs.Fields.{announced_length, dwell_widths, target_widths}
-use Rattle.dwell_checks.proofs.span.Reads as reads
-use Rattle.dwell_checks.proofs.span.Lts as lts
 use Rattle.dwell_checks.proofs.span.Given as goal
 
 abbrev pub invariant-loop-n : goal.invariant-loop-n
