@@ -2,13 +2,10 @@
 -- Assumes nothing.
 use mathlib.Core.Path.{◌≡◌, refl, sym, ap, ◌∙◌}
 use mathlib.Core.Bool.{Bool, true, false, ◌&&◌, cond}
-use mathlib.Core.List.{List, [], ◌∷◌}
-use mathlib.Core.Logic.{inl, inr}
+use mathlib.Core.List.{List, []}
 use Prim.Native.Nat.{ℕ, ◌+◌, ◌-◌, ◌≤◌, ◌<◌}
 use native.Mathlib.Omega.{arith}
 use borrow.Author.Tests.{ltb-true, ltb-false, leb-true, leb-false}
-use types.Run.{OneOf}
-use denote.Enum.Declared.{tag_of}
 use lib.Dec.{ltb, leb}
 use lib.ListN.{length, get_or, take, drop}
 use Rattle.octets.proofs.Parts.{part-is, length_part}
@@ -19,7 +16,6 @@ use Rattle.format.proofs.Listing.{before, listed_more, listed-none, listed-cut, 
 use Rattle.sheet_walk.specs.declared.Place.{Place}
 use Rattle.sheet_walk.specs.declared.Place.TheVariants.{Whole, End, Cut}
 use Rattle.sheet_walk.specs.InnerShape.{place_at}
-use Rattle.sheet_walk.specs.contracts.Place.{the_type}
 
 -- the record from a place up to another, as code cuts its body out
 abbrev pub cut_at : List ℕ → ℕ → ℕ → ℕ → Record
@@ -74,8 +70,7 @@ at_place x at {p} {q} e f =
     rw g at (known x at)
 
 -- where code was told that there is no whole record, there is none
-pub none-at : (x : List ℕ) (at : ℕ) (p : Place) → p ≡ place_at x at → OneOf (1 ∷ 2 ∷ []) (tag_of the_type p) → (listed (drop at x)).records ≡ []
-none-at x at (Whole kind end) e (inl told) = absurd (omega arith)
-none-at x at (Whole kind end) e (inr told) = absurd (omega arith)
+pub none-at : (x : List ℕ) (at : ℕ) (p : Place) → p ≡ place_at x at → ((kind end : ℕ) → p ≡ Whole kind end → ⊥) → (listed (drop at x)).records ≡ []
+none-at x at (Whole kind end) e told = absurd (told kind end refl)
 none-at x at End e told = ap (λ (l : Listed). l.records) (at_place x at e refl)
 none-at x at Cut e told = ap (λ (l : Listed). l.records) (at_place x at e refl)

@@ -23,6 +23,7 @@ unfolding body_length
 copy2-requires c = let k = ap body_length c.if-kind-eq-KIND.true in (omega arith, omega arith)
 
 pub bounds-older-86 : goal.bounds-older-86
+unfolding body_length
 bounds-older-86 c = omega (arith, ap body_length c.if-kind-eq-KIND.true)
 
 pub copy1-requires : goal.copy1-requires
@@ -30,6 +31,7 @@ unfolding body_length
 copy1-requires c = let k = ap body_length c.if-kind-eq-KIND-2.true in (omega arith, omega arith)
 
 pub bounds-older-68 : goal.bounds-older-68
+unfolding body_length
 bounds-older-68 c = omega (arith, ap body_length c.if-kind-eq-KIND-2.true)
 
 pub returns-else-kind-eq-KIND-2 : goal.returns-else-kind-eq-KIND-2
