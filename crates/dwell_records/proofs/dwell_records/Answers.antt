@@ -58,4 +58,4 @@ returns c =
     let a = c.args in
     let p = c.plan_of-p in
     dwell-with-targets a.r a.b.now a.o.now p.result p.ensures.0 c.dwell_record.ensures
-    (part-laid (λ (x : List ℕ). record_bytes (target_records p.result.mask p.result.area p.result.count x)) a.b.now c.dwell_record.new.1.1.1.0 p.result.start (record_length 3) c.target_records.ensures)
+    (part-laid (λ (x : List ℕ). record_bytes (target_records p.result.mask p.result.area p.result.count x)) a.b.now c.dwell_record.new.o p.result.start (record_length 3) c.target_records.ensures)

@@ -29,5 +29,5 @@ returns c =
     (lat.ensures ∙ ap latitude_micro c.latitude_of.ensures)
     (lon.ensures ∙ ap longitude_micro c.longitude_of.ensures)
     c.put_byte.ensures c.target_fields.ensures.stored
-    (c.put_i32.ensures ∙ ap (λ (z : ℤ). sets c.target_fields.new.1.1.1.0 37 (signed_bytes 4 z)) (to_z-of_z (sfits_of {w = w32} {z = lat.result} lat.type_inv)))
+    (c.put_i32.ensures ∙ ap (λ (z : ℤ). sets c.target_fields.new.o 37 (signed_bytes 4 z)) (to_z-of_z (sfits_of {w = w32} {z = lat.result} lat.type_inv)))
     c.put_u32.ensures

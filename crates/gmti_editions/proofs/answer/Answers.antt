@@ -14,10 +14,10 @@ use Rattle.gmti_editions.proofs.answer.Goals.{After-find-name, In_default}
 
 -- the name ends within the line
 named : (c : After-find-name) → length (take c.find-name.result c.args.line.now) ≡ c.find-name.result
-named c = length-take-le c.find-name.result c.args.line.now c.find-name.ensures.1.1
+named c = length-take-le c.find-name.result c.args.line.now c.find-name.ensures.lower_bound.1
 
 found : (c : After-find-name) → c.find-name.result ≡ before 58 c.args.line.now
-found c = omega (arith, c.find-name.ensures.0)
+found c = omega (arith, c.find-name.ensures.value)
 
 -- what is not in the first arm has a fault
 faulty : (c : In_default) → c.fault-f.result ≡ Nothing → ⊥
@@ -27,7 +27,7 @@ pub slice_bounds-put_unread-end : goal.slice_bounds-put_unread-end
 slice_bounds-put_unread-end c = sym (named (goal.at.slice_bounds-put_unread-end c).After-find-name)
 
 pub put_unread-requires : goal.put_unread-requires
-put_unread-requires c = omega (arith, named (goal.at.put_unread-requires c).After-find-name, c.find-name.ensures.1.1, c.requires.1.1)
+put_unread-requires c = omega (arith, named (goal.at.put_unread-requires c).After-find-name, c.find-name.ensures.lower_bound.1, c.requires.1.1)
 
 pub returns-in_default : goal.returns-in_default
 returns-in_default c =

@@ -15,18 +15,14 @@ use Rattle.hrr_records.proofs.Scatterers.{scatterers-next, scatterers-last}
 use Rattle.hrr_records.proofs.each_record.Goals as goal
 use Rattle.hrr_records.proofs.each_record.Goals.{In-loop-i}
 
-abbrev start : In-loop-i → Start
-start c = c.before.before.before.before
-
 -- in a turn the scatterer lies within, and its record has room
-within : (c : In-loop-i) → let a = (start c).args in let l = c.loop-i in
+within : (c : In-loop-i) → let a = c.args in let l = c.loop-i in
     (l.at + total (digits a.n) ≤ length a.t.now) × (l.q + record_length 12 ≤ length l.o)
 unfolding total
 within c =
-    let s = start c in
     let l = c.loop-i in
-    let all = mul-le-mul_right {m = suc l.i} {n = s.args.count} (total (digits s.args.n)) c.loop-i-test.true in
-    (omega (arith, l.invariant, s.pre), omega arith)
+    let all = mul-le-mul_right {m = suc l.i} {n = c.args.count} (total (digits c.args.n)) c.loop-i-test.true in
+    (omega (arith, l.invariant, c.requires), omega arith)
 
 pub loop-i-init : goal.loop-i-init
 loop-i-init c =
@@ -36,15 +32,13 @@ loop-i-init c =
 
 pub scatterer_record-requires : goal.scatterer_record-requires
 scatterer_record-requires c =
-    let s = start (goal.at.scatterer_record-requires c).In-loop-i in
-    let l = c.loop-i in
     let h = within (goal.at.scatterer_record-requires c).In-loop-i in
-    (s.pre.0, search rules, search rules)
+    (c.requires.0, search rules, search rules)
 
 pub loop-i-preserved : goal.loop-i-preserved
 unfolding total
 loop-i-preserved c =
-    let a = (start (goal.at.loop-i-preserved c).In-loop-i).args in
+    let a = c.args in
     let l = c.loop-i in (
       omega arith,
       omega arith,

@@ -14,24 +14,21 @@ use Rattle.hrr_records.proofs.scatterer_records.Goals.{After-pattern_of-n}
 
 -- an arm where the pattern is n
 module _ (c : After-pattern_of-n) (n : ℕ) (e : c.pattern_of-n.result ≡ n) where
-  abbrev start : Start
-  start = c
-
   abbrev t : List ℕ
-  t = start.args.t.now
+  t = c.args.t.now
 
   -- the widths are its digits
-  widths-are : digits n ≡ widths_of start.args.s
+  widths-are : digits n ≡ widths_of c.args.s
   widths-are = rw e at c.pattern_of-n.ensures.0
 
   -- what its loop asks
-  asked : NarrowDigits n × (start.args.count * total (digits n) ≤ length t) × (start.args.count * record_length 12 ≤ length start.args.o.now)
-  asked = (rw e at c.pattern_of-n.ensures.1, rw widths-are start.pre.1, start.pre.2)
+  asked : NarrowDigits n × (c.args.count * total (digits n) ≤ length t) × (c.args.count * record_length 12 ≤ length c.args.o.now)
+  asked = (rw e at c.pattern_of-n.ensures.1, rw widths-are c.requires.1, c.requires.2)
 
   -- what it stores
-  laid : {w : List ℕ} → w ≡ sets start.args.o.now 0 (record_bytes (scatterer_records (digits n) start.args.count t))
-      → w ≡ sets start.args.o.now 0 (record_bytes (scatterer_records (widths_of start.args.s) start.args.count t))
-  laid h = h ∙ ap (λ (ws : List ℕ). sets start.args.o.now 0 (record_bytes (scatterer_records ws start.args.count t))) widths-are
+  laid : {w : List ℕ} → w ≡ sets c.args.o.now 0 (record_bytes (scatterer_records (digits n) c.args.count t))
+      → w ≡ sets c.args.o.now 0 (record_bytes (scatterer_records (widths_of c.args.s) c.args.count t))
+  laid h = h ∙ ap (λ (ws : List ℕ). sets c.args.o.now 0 (record_bytes (scatterer_records ws c.args.count t))) widths-are
 
 pub each_record-requires : goal.each_record-requires
 each_record-requires c = asked (goal.at.each_record-requires c).After-pattern_of-n _ c.in-1000.is

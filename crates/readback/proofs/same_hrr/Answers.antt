@@ -28,7 +28,7 @@ mask_of-mask-requires c = (is-hrr c.args.b.now c.requires.0).masked
 head : (c : After-scatterers_in-s) → Headed c.mask_of-mask.result c.args.b.now
 head c =
     let m = c.mask_of-mask.ensures in
-    let h = c.scatterers_in-s.ensures.1.0 in
+    let h = c.scatterers_in-s.ensures.headed.0 in
     (m, ap is_hrr_mask m ∙ h.1, omega (arith, h.2, ap (λ (k : ℕ). announced_length k 2 hrr_widths) m))
 
 -- where the scatterers start
@@ -37,11 +37,11 @@ start_is c = omega (arith, c.fields_length-start.ensures.0 ∙ ap (λ (k : ℕ).
 
 -- they fill what is behind that place
 fill : (c : After-scatterers_in-s) → let x = c.scatterers_in-s.result in 5 + c.fields_length-start.result + x.count * total (widths_of x) ≡ length c.args.b.now
-fill c = omega (arith, start_is c, c.scatterers_in-s.ensures.1.1)
+fill c = omega (arith, start_is c, c.scatterers_in-s.ensures.headed.1)
 
 -- and the records are as long as they ask for
 long : (c : After-scatterers_in-s) → record_length 11 + c.scatterers_in-s.result.count * record_length 12 ≡ length c.args.x.now
-long c = omega (arith, c.requires.1, ap (λ (x : Scatterers). x.count) c.scatterers_in-s.ensures.0.0)
+long c = omega (arith, c.requires.1, ap (λ (x : Scatterers). x.count) c.scatterers_in-s.ensures.value.0)
 
 pub hrr_record-requires : goal.hrr_record-requires
 hrr_record-requires c = (head (goal.at.hrr_record-requires c).After-scatterers_in-s, omega (arith, c.requires.2))
@@ -63,7 +63,7 @@ same_scatterers-requires c =
     let each = c.each_of.ensures.0 in
     let b = c.args.b.now in
     let takes = ap (λ (n : ℕ). c.scatterers_in-s.result.count * n) each in (
-      c.scatterers_in-s.ensures.0.1,
+      c.scatterers_in-s.ensures.value.1,
       each,
       rw (tail-is (5 + c.fields_length-start.result) b, length-drop) (omega (arith, fill (goal.at.same_scatterers-requires c).After-scatterers_in-s, takes)),
       sym (left-length (record_length 11) _ c.args.x.now (sym (long (goal.at.same_scatterers-requires c).After-scatterers_in-s))),
@@ -80,6 +80,6 @@ returns c =
     let place = tail-is (5 + c.fields_length-start.result) b ∙ ap (λ (n : ℕ). drop n b) (start_is (goal.at.returns c).After-scatterers_in-s) in
     let rest =
     ap (λ (t : List ℕ). scatterer_records (widths_of some) some.count t) place
-    ∙ ap (λ (q : Scatterers). scatterer_records (widths_of q) q.count (drop (5 + announced_length (hrr_mask b) 2 hrr_widths) b)) c.scatterers_in-s.ensures.0.0 in
+    ∙ ap (λ (q : Scatterers). scatterer_records (widths_of q) q.count (drop (5 + announced_length (hrr_mask b) 2 hrr_widths) b)) c.scatterers_in-s.ensures.value.0 in
     record_same (hrr_record b) _ x c.args.window.now _ (record_length 11) c.hrr_record.ensures (hrr-length b) (omega (arith, c.requires.2)) (omega (arith, c.requires.1)) c.is_front.ensures y (not-false _ c.if-not-is_front.false-raw) (tail-is (record_length 11) x)
     (c.same_scatterers.ensures ∙ ap (λ (rs : List Record). is_same (record_bytes rs) y) rest)

@@ -69,7 +69,7 @@ opaque c =
 
 pub returns-then-x-le-WINDOW : goal.returns-then-x-le-WINDOW
 returns-then-x-le-WINDOW c =
-    filled-same (bytes_as (goal.at.returns-then-x-le-WINDOW c).Start c.args.segment_type) (x (goal.at.returns-then-x-le-WINDOW c).Start) c.args.window.now _ c.segment_records.ensures.1 c.requires.1 (omega (arith, c.if-x-le-WINDOW.true, c.requires.2)) c.is_front.ensures
+    filled-same (bytes_as (goal.at.returns-then-x-le-WINDOW c).Start c.args.segment_type) (x (goal.at.returns-then-x-le-WINDOW c).Start) c.args.window.now _ c.segment_records.ensures.o_after c.requires.1 (omega (arith, c.if-x-le-WINDOW.true, c.requires.2)) c.is_front.ensures
 
 pub same_dwell-requires : goal.same_dwell-requires
 unfolding body_rows is_hrr

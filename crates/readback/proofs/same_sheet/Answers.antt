@@ -39,7 +39,7 @@ module _ (c : After-reading_of-r) where
   long = sym start.pre.1 ∙ known.sheet-length
 
 -- the header's record stands in the window
-laid : (c : After-header_record) → take (record_length 1) c.header_record.new.1.0 ≡ header (goal.at.After-header_record c).After-reading_of-r
+laid : (c : After-header_record) → take (record_length 1) c.header_record.new.o ≡ header (goal.at.After-header_record c).After-reading_of-r
 laid c = front-is (header (goal.at.After-header_record c).After-reading_of-r) (start (goal.at.After-header_record c).After-reading_of-r).args.window.now _ (record_length 1) c.header_record.ensures (length-header (packet (goal.at.After-header_record c).After-reading_of-r)) (omega (arith, (start (goal.at.After-header_record c).After-reading_of-r).requires.2))
 
 pub header_record-requires : goal.header_record-requires

@@ -65,7 +65,7 @@ segment_records-to-requires c =
 
 pub overflow_add-to : goal.overflow_add-to
 overflow_add-to c =
-    omega (arith, c.segment_records-to.ensures.0, room (goal.at.overflow_add-to c).After-size_at-size, c.well_formed)
+    omega (arith, c.segment_records-to.ensures.value, room (goal.at.overflow_add-to c).After-size_at-size, c.well_formed)
 
 pub overflow_add-at : goal.overflow_add-at
 overflow_add-at c =
@@ -80,8 +80,8 @@ loop-at-preserved c =
     let t = here (goal.at.loop-at-preserved c).After-size_at-size in
     let a = c.args in
     let first = bytes_at a.r a.l.now l.at c.size_at-size.result in
-    let long = c.segment_records-to.ensures.0 in
-    let stored = c.segment_records-to.ensures.1 in
+    let long = c.segment_records-to.ensures.value in
+    let stored = c.segment_records-to.ensures.o_after in
     record {
       left = t.next;
       same = filled-length l.o first l.to stored ∙ l.invariant.same;

@@ -37,7 +37,7 @@ pub slice_bounds-packet_records-start : goal.slice_bounds-packet_records-start
 slice_bounds-packet_records-start c = omega (arith, (known (goal.at.slice_bounds-packet_records-start c).After-reading_of-r).headed)
 
 -- the sheet has room behind the header's record
-room : (c : After-header_record) → record_length 1 + length (all_bytes c.reading_of-r.result (behind (packet (goal.at.After-header_record c).After-reading_of-r))) ≤ length c.header_record.new.1.0
+room : (c : After-header_record) → record_length 1 + length (all_bytes c.reading_of-r.result (behind (packet (goal.at.After-header_record c).After-reading_of-r))) ≤ length c.header_record.new.o
 room c = omega (arith, c.header_record.auto, (known (goal.at.After-header_record c).After-reading_of-r).sheet-length, (start (goal.at.After-header_record c).After-reading_of-r).requires.1)
 
 pub slice_bounds-packet_records-count-2 : goal.slice_bounds-packet_records-count-2
@@ -48,10 +48,10 @@ slice_bounds-packet_records-start-2 c = omega (arith, room (goal.at.slice_bounds
 
 pub packet_records-requires : goal.packet_records-requires
 packet_records-requires c =
-    let o = c.header_record.new.1.0 in
+    let o = c.header_record.new.o in
     ((known (goal.at.packet_records-requires c).After-reading_of-r).checked, rw (tail-is (record_length 1) o, length-drop (record_length 1) o) (omega (arith, room (goal.at.packet_records-requires c).After-header_record)))
 
 pub returns : goal.returns
 returns c =
     let lent = (start (goal.at.returns c).After-reading_of-r).args.sheet.now in
-    laid-behind (packet (goal.at.returns c).After-reading_of-r) lent c.header_record.new.1.0 _ _ c.header_record.ensures c.packet_records.ensures ∙ sym (ap (sets lent 0) (known (goal.at.returns c).After-reading_of-r).sheet-is)
+    laid-behind (packet (goal.at.returns c).After-reading_of-r) lent c.header_record.new.o _ _ c.header_record.ensures c.packet_records.ensures ∙ sym (ap (sets lent 0) (known (goal.at.returns c).After-reading_of-r).sheet-is)

@@ -26,4 +26,4 @@ unfolding body_length header_record
 returns c =
     let l = c.args.l.now in
     record-copied 1 l c.args.o.now c.requires.0 c.put_byte.ensures
-    (c.copy32.ensures ∙ ap (sets c.put_byte.new.0 1) (take_all (body_length 1) (take (body_length 1) l) (omega (arith, long (goal.at.returns c).Start))))
+    (c.copy32.ensures ∙ ap (sets c.put_byte.new.o 1) (take_all (body_length 1) (take (body_length 1) l) (omega (arith, long (goal.at.returns c).Start))))

@@ -31,5 +31,5 @@ pub returns : goal.returns
 returns c =
     let a = c.args in
     job-laid a.r a.b.now a.o.now c.requires.0 c.put_byte.ensures c.copy64_to_72.ensures
-    (c.put_byte-2.ensures ∙ ap (λ (v : ℕ). sets c.copy64_to_72.new.1.0 66 (v ∷ [])) c.j26_shown.ensures)
-    (c.put_byte-3.ensures ∙ ap (λ (v : ℕ). sets c.put_byte-2.new.0 69 (v ∷ [])) c.mark_of.ensures)
+    (c.put_byte-2.ensures ∙ ap (λ (v : ℕ). sets c.copy64_to_72.new.o 66 (v ∷ [])) c.j26_shown.ensures)
+    (c.put_byte-3.ensures ∙ ap (λ (v : ℕ). sets c.put_byte-2.new.o 69 (v ∷ [])) c.mark_of.ensures)

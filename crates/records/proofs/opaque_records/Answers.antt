@@ -10,4 +10,4 @@ pub returns : goal.returns
 returns c =
     let a = c.args in
     opaque-laid a.segment_type a.b.now a.o.now c.opaque_record.ensures
-    (part_filled c.opaque_record.new.1.1.0 (record_bytes (pieces_of a.b.now)) (record_length 7) c.piece_records.ensures)
+    (part_filled c.opaque_record.new.o (record_bytes (pieces_of a.b.now)) (record_length 7) c.piece_records.ensures)

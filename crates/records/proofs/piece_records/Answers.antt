@@ -31,7 +31,7 @@ returns-then-full-b c =
     let a = c.args in
     let n = length a.b.now / 32 in
     pieces-with-last a.b.now a.o.now (search rules) c.full_pieces.ensures
-    (part-laid (λ (t : List ℕ). record_bytes (piece_record t ∷ [])) a.b.now c.full_pieces.new.1.1.0 (n * 32) (n * record_length 6) c.last_piece.ensures)
+    (part-laid (λ (t : List ℕ). record_bytes (piece_record t ∷ [])) a.b.now c.full_pieces.new.o (n * 32) (n * record_length 6) c.last_piece.ensures)
 
 pub returns-else-full-b : goal.returns-else-full-b
 returns-else-full-b c =

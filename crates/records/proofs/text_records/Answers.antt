@@ -17,4 +17,4 @@ pub returns : goal.returns
 returns c =
     let a = c.args in
     text-laid a.b.now a.o.now c.text_record.ensures
-    (part-laid (λ (t : List ℕ). record_bytes (pieces_of t)) a.b.now c.text_record.new.1.0 20 (record_length 5) c.piece_records.ensures)
+    (part-laid (λ (t : List ℕ). record_bytes (pieces_of t)) a.b.now c.text_record.new.o 20 (record_length 5) c.piece_records.ensures)
