@@ -1,21 +1,20 @@
 -- Pieces: how one is laid out, the loop over those that are full, and the last.
 -- Assumes nothing.
-use mathlib.Core.Path.{◌≡◌, refl, sym, ap, ap₂, ◌∙◌}
+use mathlib.Core.Path.{◌≡◌, refl, sym, ap, ◌∙◌}
 use mathlib.Core.List.{List, [], ◌∷◌, ◌++◌}
 use Prim.Native.Nat.{ℕ, zero, suc, ◌+◌, ◌-◌, ◌*◌, ◌/◌, ◌≤◌, ◌<◌, min}
 use native.Mathlib.Nat.{sub-zero, not-suc-le-zero}
 use native.Mathlib.Numerals.{add-one}
 use native.Mathlib.Omega.{arith}
-use lib.ListN.{length, take, drop, set, length-take, length-drop}
-use lib.Seq.{sets, take-take, take_all, length-take-le}
+use lib.ListN.{length, take, drop, set}
+use lib.Seq.{sets, take_all, length-take-le}
 use Rattle.octets.specs.Layout.{pad}
 use Rattle.octets.proofs.Laws.{then}
 use Rattle.octets.proofs.Layouts.{pad-take, length-pad}
-use Rattle.format.specs.Sheet.{Record, body_length, record_of, record_bytes, piece_record, piece_records, piece_count, pieces_of}
+use Rattle.format.specs.Sheet.{body_length, record_bytes, piece_record, piece_records, piece_count}
 use Rattle.format.specs.Lengths.{record_length}
 use Rattle.copies.proofs.Stores.{sets-within}
 use Rattle.format.proofs.Lengths.{length-one, length-pieces}
-use Rattle.format.proofs.Segments.{part-is}
 use Rattle.records.proofs.Laid.{record-laid, records-then, records-next, records-append}
 
 -- ---- one piece

@@ -1,8 +1,7 @@
 -- `records::full_pieces` meets its contract. What is left of the pieces to store, stored where it belongs, gives all of them.
 -- Assumes nothing.
-use Prim.Native.Nat.{ℕ, ◌-◌, ◌*◌}
+use Prim.Native.Nat.{ℕ, ◌*◌}
 use mathlib.Core.List.{List, [], ◌∷◌}
-use lib.ListN.{length}
 use lib.Seq.{sets}
 use borrow.Author.Rules.{rules}
 use Rattle.format.specs.Sheet.{piece_record, piece_records, record_bytes}

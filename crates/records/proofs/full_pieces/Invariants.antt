@@ -4,7 +4,7 @@ use Prim.Native.Nat.{◌-◌, ◌*◌, ◌≤◌}
 use mathlib.Core.Path.{◌≡◌}
 use lib.ListN.{length, drop}
 use lib.Seq.{sets}
-use Rattle.format.specs.Sheet.{piece_record, piece_records, record_bytes}
+use Rattle.format.specs.Sheet.{piece_records, record_bytes}
 use Rattle.format.specs.Lengths.{record_length}
 use Rattle.records.proofs.full_pieces.Given as goal
 
