@@ -1,6 +1,7 @@
 // The way back of an HRR segment: of H2 to H31 at full widths the announced ones alone, from p on in s, to q on in o; and scatterers. Each
 // function of fields answers where the next one goes in o.
-#![tactic(auto)]
+// What a call requires is found without an answer once these two definitions are open.
+#![tactic(auto, unfolding(mask::specs::Fields::announced_length, octets::specs::Layout::total))]
 
 ghost use Rattle.std.specs.Prelude.{◌≡◌, ◌+◌, ◌-◌, ◌*◌, ◌≤◌, length, take, drop};
 ghost use Rattle.std.proofs.lemmas.List.Edits.{sets};

@@ -16,17 +16,13 @@ use Rattle.pack_hrr.proofs.Narrowed.{all-next, all-last}
 use Rattle.pack_hrr.proofs.each_scatterer.Goals as goal
 use Rattle.pack_hrr.proofs.each_scatterer.Goals.{In-loop-i}
 
-abbrev start : In-loop-i → Start
-start c = c.before.before.before.before
-
 -- in a turn the scatterer's record lies within, and its bytes have room
-within : (c : In-loop-i) → let a = (start c).args in let l = c.loop-i in
+within : (c : In-loop-i) → let a = c.args in let l = c.loop-i in
     (l.at + record_length 12 ≤ length a.x.now) × (l.q + a.each ≤ length l.o)
 within c =
-    let s = start c in
     let l = c.loop-i in
-    let all = mul-le-mul_right {m = suc l.i} {n = s.args.count} s.args.each c.loop-i-test.true in
-    (omega arith, omega (arith, all, suc-mul l.i s.args.each, l.invariant, s.pre.3))
+    let all = mul-le-mul_right {m = suc l.i} {n = c.args.count} c.args.each c.loop-i-test.true in
+    (omega arith, omega (arith, all, suc-mul l.i c.args.each))
 
 pub loop-i-init : goal.loop-i-init
 loop-i-init c =
@@ -36,22 +32,20 @@ loop-i-init c =
 
 pub scatterer-requires : goal.scatterer-requires
 scatterer-requires c =
-    let s = start (goal.at.scatterer-requires c).In-loop-i in
-    let l = c.loop-i in
     let h = within (goal.at.scatterer-requires c).In-loop-i in
-    (s.pre.0, search rules, search rules)
+    (c.requires.0, search rules, search rules)
 
 pub loop-i-preserved : goal.loop-i-preserved
 unfolding total
 loop-i-preserved c =
-    let a = (start (goal.at.loop-i-preserved c).In-loop-i).args in
+    let a = c.args in
     let l = c.loop-i in
     let ws = digits a.n in (
       omega arith,
       omega arith,
       omega arith,
       search rules,
-      all-next ws refl (all-narrow (start (goal.at.loop-i-preserved c).In-loop-i).requires.0) (a.count - l.i) (a.count - (l.i + 1)) l.at l.q _ a.x.now l.o _ (omega arith) (omega arith) (within (goal.at.loop-i-preserved c).In-loop-i).0 c.scatterer.ensures l.invariant.4,
+      all-next ws refl (all-narrow c.requires.0) (a.count - l.i) (a.count - (l.i + 1)) l.at l.q _ a.x.now l.o _ (omega arith) (omega arith) (within (goal.at.loop-i-preserved c).In-loop-i).0 c.scatterer.ensures l.invariant.4,
     )
 
 pub returns : goal.returns

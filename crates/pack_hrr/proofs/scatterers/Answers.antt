@@ -24,27 +24,24 @@ room count long e h = rw e h
 
 -- an arm where the pattern is n
 module _ (c : After-pattern_of-n) (n : ℕ) (e : c.pattern_of-n.result ≡ n) where
-  abbrev start : Start
-  start = c
-
   abbrev each : ℕ
   each = c.each_of-each.result
 
   -- the widths are its digits, and `each` their sum
-  widths-are : digits n ≡ widths_of start.args.s
+  widths-are : digits n ≡ widths_of c.args.s
   widths-are = rw e at c.pattern_of-n.ensures.0
 
   sum_is : each ≡ total (digits n)
   sum_is = c.each_of-each.ensures.0 ∙ ap total (sym widths-are)
 
   -- what its loop asks
-  asked : NarrowDigits n × (each ≡ total (digits n)) × (start.args.count * record_length 12 ≤ length start.args.x.now) × (start.args.count * each ≤ length start.args.o.now)
-  asked = (rw e at c.pattern_of-n.ensures.1, sum_is, start.pre.1, room _ _ c.each_of-each.ensures.0 start.pre.2)
+  asked : NarrowDigits n × (each ≡ total (digits n)) × (c.args.count * record_length 12 ≤ length c.args.x.now) × (c.args.count * each ≤ length c.args.o.now)
+  asked = (rw e at c.pattern_of-n.ensures.1, sum_is, c.requires.1, room _ _ c.each_of-each.ensures.0 c.requires.2)
 
   -- what it stores
-  laid : {w : List ℕ} → w ≡ sets start.args.o.now 0 (narrowed_all (digits n) start.args.count start.args.x.now)
-      → w ≡ sets start.args.o.now 0 (narrowed_all (widths_of start.args.s) start.args.count start.args.x.now)
-  laid h = h ∙ ap (λ (ws : List ℕ). sets start.args.o.now 0 (narrowed_all ws start.args.count start.args.x.now)) widths-are
+  laid : {w : List ℕ} → w ≡ sets c.args.o.now 0 (narrowed_all (digits n) c.args.count c.args.x.now)
+      → w ≡ sets c.args.o.now 0 (narrowed_all (widths_of c.args.s) c.args.count c.args.x.now)
+  laid h = h ∙ ap (λ (ws : List ℕ). sets c.args.o.now 0 (narrowed_all ws c.args.count c.args.x.now)) widths-are
 
 pub each_scatterer-requires : goal.each_scatterer-requires
 each_scatterer-requires c = asked (goal.at.each_scatterer-requires c).After-pattern_of-n _ c.in-1000.is
