@@ -140,6 +140,9 @@ fn a_packet_length_that_cannot_be_trusted_ends_the_walk() {
         assert_eq!(printed.lines().count(), 2, "{p2}");
         assert!(printed.ends_with("149 939 no 4 0 0\n"), "{p2}: {printed}");
     }
+    let mut bytes = recording().repeat(100);
+    bytes[149 + 2..149 + 6].copy_from_slice(&65_537u32.to_be_bytes());
+    assert!(assert_prints("long_length", &bytes).ends_with("149 108651 no 2 0 0\n"));
     let mut bytes = recording();
     bytes[149] = b'x';
     assert!(assert_prints("version", &bytes).ends_with("149 939 no 3 0 0\n"));
@@ -152,7 +155,7 @@ fn all_that_is_left_counts_as_one_packet() {
         let mut bytes = recording().repeat(times);
         bytes[149 + 2..149 + 6].copy_from_slice(&65_537u32.to_be_bytes());
         let number = if length > 65_536 { 2 } else { 4 };
-        assert!(assert_prints("long_length", &bytes).ends_with(&format!("149 {length} no {number} 0 0\n")), "{length}");
+        assert!(assert_prints("longer_length", &bytes).ends_with(&format!("149 {length} no {number} 0 0\n")), "{length}");
     }
 }
 
@@ -173,8 +176,9 @@ fn packets_of_every_length_are_read() {
 }
 
 #[test]
-fn a_long_recording_is_read_to_its_end() {
+fn more_than_the_program_first_makes_room_for() {
     let bytes = recording().repeat(2000);
+    assert!(bytes.len() > 1 << 20);
     assert_eq!(assert_prints("long", &bytes).lines().count(), 12_000);
 }
 
@@ -243,7 +247,7 @@ int main(int count, char **words) {
 "#;
 
 #[test]
-fn the_header_has_the_bound_of_the_package() {
+fn the_header_has_the_constants_and_the_bound_of_the_package() {
     let lengths = [0, 31, 32, 33, 35, 36, 92, 65_535, 65_536, 65_537, usize::MAX];
     let program = compiled_lines(BOUNDS, "bounds");
     let output = Command::new(program).args(lengths.map(|length| length.to_string())).output().unwrap();

@@ -569,3 +569,10 @@ fn the_example_is_that_of_the_package() {
     let example = fs::read_to_string(root().join("rust/gmti/examples/positions.rs")).unwrap();
     assert!(manual().contains(&format!("```rust\n{example}```\n")));
 }
+
+#[test]
+fn the_example_has_the_lengths_of_all_kinds() {
+    let example = fs::read_to_string(root().join("rust/gmti/examples/positions.rs")).unwrap();
+    let lengths: Vec<_> = BODY_LENGTHS.iter().map(|length| (1 + length).to_string()).collect();
+    assert!(example.contains(&format!("= [0, {}];\n", lengths.join(", "))));
+}
