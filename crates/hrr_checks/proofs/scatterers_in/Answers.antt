@@ -28,7 +28,8 @@ returns c =
     let m = c.mask_of-mask.ensures in
     let h = is-hrr b c.requires in
     let is = c.scatterers_in.ensures.0 ∙ ap (λ (k : ℕ). scatterers_of k (hrr_fields b)) m in
-    let narrow = widths-narrow b h in (
-      (is, rw is (narrow.0, narrow.1.0, taken-most _ (d32 3) index_width, taken-most _ (d32 4) index_width), c.scatterers_in.ensures.1),
-      ((refl, h.mask-passes, omega (arith, h.exact)), rw is (sym h.exact)),
-    )
+    let narrow = widths-narrow b h in
+    record {
+      value = (is, rw is (narrow.0, narrow.1.0, taken-most _ (d32 3) index_width, taken-most _ (d32 4) index_width), c.scatterers_in.ensures.1);
+      headed = ((refl, h.mask-passes, omega (arith, h.exact)), rw is (sym h.exact));
+    }

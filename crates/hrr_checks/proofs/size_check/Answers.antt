@@ -1,7 +1,6 @@
 -- `hrr_checks::size_check` meets its contract. The announced fields are there, the widths are right, and the product of counts and widths is what
 -- is left.
 -- Assumes nothing.
-use borrow.Author.Tests.{not-true, not-false}
 use mathlib.Core.Path.{◌≡◌, sym, ap, ap₂, ◌∙◌}
 use mathlib.Core.Bool.{Bool, not, ◌&&◌}
 use mathlib.Core.List.{List}
@@ -19,7 +18,7 @@ use Rattle.hrr.specs.declared.Scatterers.{Scatterers}
 use Rattle.hrr.proofs.Numbers.{h25-room, h25-is, h26-is}
 use Rattle.hrr_checks.proofs.Sizes.{wrong_size, wrong-widths, right-size}
 use Rattle.hrr_checks.proofs.size_check.Goals as goal
-use Rattle.hrr_checks.proofs.size_check.Goals.{After-are_widths, After-each_of, After-fields_length-start, After-length_before_h25-at, After-struct_known-1, Else-b-start}
+use Rattle.hrr_checks.proofs.size_check.Goals.{After-are_widths, After-each_of, After-fields_length-start, After-length_before_h25-at, Else-b-start}
 
 -- where the scatterers start
 start_is : (c : After-fields_length-start) → 5 + c.fields_length-start.result ≡ 5 + announced_length (hrr_mask c.args.b.now) 2 hrr_widths
@@ -89,14 +88,14 @@ pub overflow_add-start-2 : goal.overflow_add-start-2
 overflow_add-start-2 c = omega (arith, fits (goal.at.overflow_add-start-2 c).After-each_of, c.fields_length-start.ensures.1)
 
 -- the size that it asks for
-size_is : (c : After-struct_known-1) → let b = c.args.b.now in
+size_is : (c : After-each_of) → let b = c.args.b.now in
     5 + c.fields_length-start.result + c.scatterers_in-s.result.count * c.each_of.result
     ≡ 5 + announced_length (hrr_mask b) 2 hrr_widths + scatterer_count (hrr_mask b) (hrr_fields b) * total (scatterer_widths (hrr_mask b) (hrr_fields b))
-size_is c = ap₂ ◌+◌ (start_is (goal.at.After-struct_known-1 c).After-fields_length-start) (product_is (goal.at.After-struct_known-1 c).After-each_of)
+size_is c = ap₂ ◌+◌ (start_is (goal.at.After-each_of c).After-fields_length-start) (product_is c)
 
 pub returns-then-b-start-2 : goal.returns-then-b-start-2
-returns-then-b-start-2 c = wrong_size _ (λ e. c.if-b-start-2.true (e ∙ sym (size_is (goal.at.returns-then-b-start-2 c).After-struct_known-1)))
+returns-then-b-start-2 c = wrong_size _ (λ e. c.if-b-start-2.true (e ∙ sym (size_is (goal.at.returns-then-b-start-2 c).After-each_of)))
 
 pub returns : goal.returns
 returns c =
-    right-size _ (sym (widths-are (goal.at.returns c).After-are_widths) ∙ c.if-not-are_widths.false) (c.if-b-start-2.false ∙ size_is (goal.at.returns c).After-struct_known-1)
+    right-size _ (sym (widths-are (goal.at.returns c).After-are_widths) ∙ c.if-not-are_widths.false) (c.if-b-start-2.false ∙ size_is (goal.at.returns c).After-each_of)
