@@ -1,9 +1,7 @@
 -- `vectors::is_number` meets its contract. The loop keeps that the characters left decide whether all are digits.
 -- Assumes nothing.
 use native.Mathlib.Omega.{arith}
-use Prim.Native.Nat.{◌-◌}
 use mathlib.Core.Path.{refl, sym, ◌∙◌}
-use borrow.Author.Tests.{not-true, not-false}
 use Rattle.vectors.specs.Vectors.{is_number}
 use Rattle.vectors.proofs.Spellings.{digits-each, each_next, each-fails, each-end}
 use Rattle.vectors.proofs.is_number.Goals as goal
@@ -15,12 +13,12 @@ pub returns-then-not-is_digit : goal.returns-then-not-is_digit
 unfolding is_number
 returns-then-not-is_digit c =
     let l = c.loop-i in
-    rw (← l.invariant.1, each-fails digits-each c.args.s.now l.i (omega arith) (sym c.is_digit.ensures ∙ not-true _ c.if-not-is_digit.true-raw))
+    rw (← l.invariant.1, each-fails digits-each c.args.s.now l.i (omega arith) (sym c.is_digit.ensures ∙ c.if-not-is_digit.true))
 
 pub loop-i-preserved : goal.loop-i-preserved
 loop-i-preserved c =
     let l = c.loop-i in
-    (omega arith, each_next digits-each c.args.s.now l.i (omega arith) (sym c.is_digit.ensures ∙ not-false _ c.if-not-is_digit.false-raw) ∙ l.invariant.1)
+    (omega arith, each_next digits-each c.args.s.now l.i (omega arith) (sym c.is_digit.ensures ∙ c.if-not-is_digit.false) ∙ l.invariant.1)
 
 pub returns : goal.returns
 unfolding is_number

@@ -1,6 +1,6 @@
 -- `vectors::number` meets its contract. The loop keeps that the digits left, behind the number so far, spell the whole.
 -- Assumes nothing.
-use Prim.Native.Nat.{◌-◌, ◌+◌}
+use Prim.Native.Nat.{◌+◌}
 use native.Mathlib.Omega.{arith}
 use mathlib.Core.Path.{refl, sym, ap, ◌∙◌}
 use lib.ListN.{drop}

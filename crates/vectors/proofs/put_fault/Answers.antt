@@ -6,26 +6,43 @@ use Rattle.vectors.specs.Vectors.{fault_text}
 use Rattle.vectors.proofs.Spellings.{fault-laid}
 use Rattle.vectors.proofs.put_fault.Goals as goal
 
-pub shape_of-o-in-Digit : goal.shape_of-o-in-Digit
+pub returns-in-Nothing : goal.returns-in-Nothing
 unfolding fault_text
-shape_of-o-in-Digit c = fault-laid _ _ c.enum_told-1.given.1 (omega arith, refl)
+returns-in-Nothing c =
+    let h = fault-laid c.args.o.now c.args.at c.in-Nothing.is (omega arith, refl) in
+    record { value = h.0; o_after = h.1 }
 
-pub shape_of-o-in-Half : goal.shape_of-o-in-Half
+pub returns-in-Form : goal.returns-in-Form
 unfolding fault_text
-shape_of-o-in-Half c = fault-laid _ _ c.enum_told-in-Form-1.given.1 c.put_word.ensures
+returns-in-Form c =
+    let e = c.put_word.ensures in
+    let h = fault-laid c.args.o.now c.args.at c.in-Form.is (e.value, e.o_after) in
+    record { value = h.0; o_after = h.1 }
 
-pub shape_of-o-in-Length : goal.shape_of-o-in-Length
+pub returns-in-Number : goal.returns-in-Number
 unfolding fault_text
-shape_of-o-in-Length c = fault-laid _ _ c.enum_told-in-Number-1.given.1 c.put_word-in-Number.ensures
+returns-in-Number c =
+    let e = c.put_word-in-Number.ensures in
+    let h = fault-laid c.args.o.now c.args.at c.in-Number.is (e.value, e.o_after) in
+    record { value = h.0; o_after = h.1 }
 
-returns-4 : tie.Need-returns-4
+pub returns-in-Digit : goal.returns-in-Digit
 unfolding fault_text
-returns-4 c = fault-laid _ _ c.before.before.before.before.before.enum-told4.given.1 c.before.before.put-word3.ensures
+returns-in-Digit c =
+    let e = c.put_word-in-Digit.ensures in
+    let h = fault-laid c.args.o.now c.args.at c.in-Digit.is (e.value, e.o_after) in
+    record { value = h.0; o_after = h.1 }
 
-returns-5 : tie.Need-returns-5
+pub returns-in-Half : goal.returns-in-Half
 unfolding fault_text
-returns-5 c = fault-laid _ _ c.before.before.before.before.before.enum-told5.given.1 c.before.before.put-word4.ensures
+returns-in-Half c =
+    let e = c.put_word-in-Half.ensures in
+    let h = fault-laid c.args.o.now c.args.at c.in-Half.is (e.value, e.o_after) in
+    record { value = h.0; o_after = h.1 }
 
-returns-6 : tie.Need-returns-6
+pub returns-in-Length : goal.returns-in-Length
 unfolding fault_text
-returns-6 c = fault-laid _ _ c.before.before.before.before.before.enum-told6.given.1 c.before.before.put-word5.ensures
+returns-in-Length c =
+    let e = c.put_word-in-Length.ensures in
+    let h = fault-laid c.args.o.now c.args.at c.in-Length.is (e.value, e.o_after) in
+    record { value = h.0; o_after = h.1 }

@@ -12,4 +12,4 @@ pub returns : goal.returns
 returns c =
     let a = c.args in
     let h = name-laid a.name.now a.o.now {p = length a.name.now} (omega arith, c.copy_all.ensures) in
-    (omega arith, h.1)
+    record { value = omega arith; o_after = h.1 }

@@ -7,13 +7,10 @@ use lib.ListN.{length-set}
 use Rattle.vectors.proofs.Spellings.{label-laid, unread-laid}
 use Rattle.vectors.proofs.put_unread.Goals as goal
 
-pub shape_of-o : goal.shape_of-o
-shape_of-o c = rw length-set (c.put_fault-q.auto.0 ∙ c.put_name-p.auto.0)
-
 pub returns : goal.returns
 returns c =
     let a = c.args in
     let n = c.put_name-p.ensures in
     let e = c.put_fault-q.ensures in
-    let h = unread-laid a.name.now a.o.now a.f (label-laid a.name.now a.o.now n.0 n.1) (e.0.0, e.1) in
-    ((h.0 ∙ zero-add _, rw length-set (omega (arith, c.put_fault-q.auto.0, c.put_name-p.auto.0))), h.1)
+    let h = unread-laid a.name.now a.o.now a.f (label-laid a.name.now a.o.now n.value n.o_after) (e.value.0, e.o_after) in
+    record { value = (h.0 ∙ zero-add _, rw length-set (omega (arith, c.put_fault-q.auto.o, c.put_name-p.auto.o))); o_after = h.1 }

@@ -1,7 +1,7 @@
 -- `vectors::unhex` meets its contract. The loop keeps that the pairs left, stored behind those so far, give the whole.
 -- Assumes nothing.
 use mathlib.Core.Path.{refl, ap₂}
-use Prim.Native.Nat.{ℕ, ◌-◌, ◌+◌, ◌*◌, ◌<◌}
+use Prim.Native.Nat.{ℕ, ◌+◌, ◌*◌, ◌<◌}
 use native.Mathlib.Omega.{arith}
 use Rattle.vectors.specs.Vectors.{unhexed}
 use Rattle.vectors.proofs.Spellings.{nibble-below, pairs_start, pairs-turn, pairs_end}
@@ -14,14 +14,14 @@ loop-i-init c = (omega arith, refl, pairs_start _ _ _)
 -- the first digit of a pair is below 16
 first-digit : (c : After-nibble) → c.nibble.result < 16
 first-digit c =
-    omega (arith, nibble-below c.args.s.now (2 * c.loop-i.i) c.requires.0 (omega arith))
+    omega (arith, nibble-below c.args.s.now (2 * c.loop-i.i) c.requires.s_value (omega arith))
 
 pub overflow_mul-o : goal.overflow_mul-o
 overflow_mul-o c = omega (arith, first-digit (goal.at.overflow_mul-o c).After-nibble)
 
 pub overflow_add-o : goal.overflow_add-o
 overflow_add-o c =
-    omega (arith, first-digit (goal.at.overflow_add-o c).After-nibble, nibble-below c.args.s.now (2 * c.loop-i.i + 1) c.requires.0 (omega arith))
+    omega (arith, first-digit (goal.at.overflow_add-o c).After-nibble, nibble-below c.args.s.now (2 * c.loop-i.i + 1) c.requires.s_value (omega arith))
 
 pub loop-i-preserved : goal.loop-i-preserved
 loop-i-preserved c =
@@ -32,12 +32,9 @@ loop-i-preserved c =
       pairs-turn a.s.now a.o.now l.o _ l.i (omega arith) l.invariant.2 (ap₂ (λ (x y : ℕ). x * 16 + y) c.nibble.ensures.0 c.nibble-in-loop-i.ensures.0),
     )
 
-pub shape_of-o : goal.shape_of-o
-shape_of-o c = c.loop-i.invariant.2.same
-
 pub returns : goal.returns
 unfolding unhexed
 returns c =
     let a = c.args in
     let l = c.loop-i in
-    ((refl, omega (arith, l.invariant.2.same)), pairs_end a.s.now a.o.now l.o _ l.i (omega arith) l.invariant.2)
+    record { value = (refl, omega (arith, l.invariant.2.same)); o_after = pairs_end a.s.now a.o.now l.o _ l.i (omega arith) l.invariant.2 }
