@@ -3,7 +3,7 @@
 use mathlib.Core.Path.{◌≡◌, refl, sym, ap, ap₂, ◌∙◌}
 use mathlib.Core.Bool.{Bool, true, false, ◌||◌, cond, true≢false}
 use mathlib.Core.Logic.{◌⊎◌, inl, inr}
-use mathlib.Core.List.{List, [], ◌∷◌, ◌++◌, append-nil}
+use mathlib.Core.List.{List, ◌++◌, append-nil}
 use Prim.Native.Nat.{ℕ, zero, suc, ◌+◌, ◌-◌, ◌*◌, ◌/◌, ◌≤◌, ◌<◌}
 use native.Mathlib.Nat.{sub-zero}
 use native.Mathlib.Omega.{arith}
@@ -23,7 +23,7 @@ use Rattle.format.proofs.Rows.{both, neither}
 use Rattle.format.proofs.Segments.{part-is}
 use Rattle.sheet_walk.specs.InnerShape.{scatterers_behind, BeginsWith}
 use Rattle.sheet_walk.proofs.Runs.{parted}
-use Rattle.spelling.specs.InnerSpelling.{spelt, row_of, row_behind, row_given, given_in_row, read_next, spelt_next, carried_all, record_in, leading}
+use Rattle.spelling.specs.InnerSpelling.{spelt, row_of, row_behind, row_given, given_in_row, read_next, spelt_next, carried_all, record_in}
 use Rattle.spelling.proofs.Narrow.{widths_behind, narrowed-front, scatterer-narrowed}
 
 -- ---- a record and its row

@@ -8,7 +8,7 @@ use native.Mathlib.Nat.{suc-mul, zero-mul}
 use native.Mathlib.Omega.{arith}
 use borrow.Author.Tests.{eq-eqb, ne_eqb, eqb-true}
 use lib.Dec.{eqb}
-use lib.ListN.{length, get_or, take, drop, length-take, length-drop}
+use lib.ListN.{get_or, take, drop, length-take, length-drop}
 use lib.Seq.{drop-drop, get_or-drop, get_or-take}
 use Rattle.format.specs.Sheet.{Record, body_length}
 use Rattle.format.specs.Lengths.{record_length}

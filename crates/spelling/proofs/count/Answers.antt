@@ -44,4 +44,4 @@ returns-then-is_follower c =
 pub returns : goal.returns
 returns c =
     let leads = sym c.is_follower.ensures ∙ c.if-is_follower.false in
-    count-leader (due_in (goal.at.returns c).Start) c.args.sum (given (goal.at.returns c).Start) (omega arith) leads _ _ c.lead_of-l.ensures.1 (omega (arith, c.capped-n.ensures, c.segment_size.ensures.0))
+    count-leader (due_in (goal.at.returns c).Start) c.args.sum (given (goal.at.returns c).Start) (omega arith) leads _ _ c.lead_of-l.ensures.value (omega (arith, c.capped-n.ensures, c.segment_size.ensures.0))

@@ -1,7 +1,7 @@
 -- `spelling::put_full_pieces` meets its contract. What is left of the pieces' bytes to store, stored where it belongs, gives all of them.
 -- Assumes nothing.
-use Prim.Native.Nat.{ℕ, ◌-◌}
-use mathlib.Core.Path.{refl, ap, ap₂, ◌∙◌}
+use Prim.Native.Nat.{ℕ}
+use mathlib.Core.Path.{refl, ap₂, ◌∙◌}
 use native.Mathlib.Omega.{arith}
 use lib.ListN.{take, drop}
 use lib.Seq.{sets}
@@ -36,7 +36,7 @@ loop-i-preserved c =
       omega (arith, t),
       omega (arith, l.invariant.1),
       omega (arith, l.invariant.2),
-      omega (arith, c.copy32.auto.1.1.0, l.invariant.3),
+      omega (arith, c.copy32.auto.o, l.invariant.3),
       carried-next a.count l.i a.rest.now l.o _ t c.requires.0 stored l.invariant.4,
     )
 

@@ -32,7 +32,7 @@ dwell_fields-requires c =
     let long = dwell-length c.args.kind c.args.b.now c.requires.0 e in
     record {
       held = omega (arith, dwell-long c.args.kind c.args.b.now c.requires.0 e);
-      room = omega (arith, long, ap (λ (m : ℕ). announced_length m 2 dwell_widths) mask, c.copy8.auto.1.1.0, c.requires.1, c.requires.2);
+      room = omega (arith, long, ap (λ (m : ℕ). announced_length m 2 dwell_widths) mask, c.copy8.auto.o, c.requires.1, c.requires.2);
     }
 
 pub returns-then-kind-eq-KIND : goal.returns-then-kind-eq-KIND

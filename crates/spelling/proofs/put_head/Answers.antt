@@ -5,4 +5,4 @@ use lib.ListN.{length-set}
 use Rattle.spelling.proofs.put_head.Goals as goal
 
 pub shape_of-o : goal.shape_of-o
-shape_of-o c = omega (arith, c.put_u32.auto.0, length-set c.args.o.now 0 c.args.segment_type)
+shape_of-o c = omega (arith, c.put_u32.auto.s, length-set c.args.o.now 0 c.args.segment_type)

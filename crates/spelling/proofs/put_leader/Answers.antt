@@ -22,27 +22,28 @@ room s = omega (arith, begun-length (leader s), s.requires.1)
 
 pub overflow_cast-size : goal.overflow_cast-size
 overflow_cast-size c =
-    omega (arith, c.segment_size-size.ensures.0, lead-size (leader (goal.at.overflow_cast-size c).Start) _ c.lead_of-l.ensures.1, c.requires.0.2)
+    omega (arith, c.segment_size-size.ensures.0, lead-size (leader (goal.at.overflow_cast-size c).Start) _ c.lead_of-l.ensures.value, c.requires.0.2)
 
 pub put_head-requires : goal.put_head-requires
 put_head-requires c = omega (arith, room (goal.at.put_head-requires c).Start)
 
 pub slice_bounds-put_given-count : goal.slice_bounds-put_given-count
-slice_bounds-put_given-count c = omega (arith, room (goal.at.slice_bounds-put_given-count c).Start, c.put_head.auto.1.1.0)
+slice_bounds-put_given-count c = omega (arith, room (goal.at.slice_bounds-put_given-count c).Start, c.put_head.auto.o)
 
 pub slice_bounds-put_given-start : goal.slice_bounds-put_given-start
-slice_bounds-put_given-start c = omega (arith, room (goal.at.slice_bounds-put_given-start c).Start, c.put_head.auto.1.1.0)
+slice_bounds-put_given-start c = omega (arith, room (goal.at.slice_bounds-put_given-start c).Start, c.put_head.auto.o)
 
 pub put_given-requires : goal.put_given-requires
 put_given-requires c =
-    let h = c.put_head.new.1.1.0 in
-    let n = lead-given (leader (goal.at.put_given-requires c).Start) _ c.lead_of-l.ensures.1 in
-    (c.requires.0.0, n, rw (tail-is 5 h, length-drop 5 h) (omega (arith, n, room (goal.at.put_given-requires c).Start, c.put_head.auto.1.1.0)))
+    let h = c.put_head.new.o in
+    let n = lead-given (leader (goal.at.put_given-requires c).Start) _ c.lead_of-l.ensures.value in
+    (c.requires.0.0, n, rw (tail-is 5 h, length-drop 5 h) (omega (arith, n, room (goal.at.put_given-requires c).Start, c.put_head.auto.o)))
 
 pub returns : goal.returns
 returns c =
     let r = leader (goal.at.returns c).Start in
-    let e = c.lead_of-l.ensures.1 in (
-      omega (arith, begun-length r, lead-given r _ e),
-      leader-stored r _ e _ c.args.o.now c.segment_size-size.ensures.0 c.put_head.ensures (part_filled c.put_head.new.1.1.0 (given r) 5 c.put_given.ensures),
-    )
+    let e = c.lead_of-l.ensures.value in
+    record {
+      value = omega (arith, begun-length r, lead-given r _ e);
+      o_after = leader-stored r _ e _ c.args.o.now c.segment_size-size.ensures.0 c.put_head.ensures (part_filled c.put_head.new.o (given r) 5 c.put_given.ensures);
+    }

@@ -22,7 +22,7 @@ pub copy4-requires : goal.copy4-requires
 copy4-requires c = omega (arith, long (goal.at.copy4-requires c).Start, room (goal.at.copy4-requires c).Start)
 
 pub copy1-requires : goal.copy1-requires
-copy1-requires c = omega (arith, long (goal.at.copy1-requires c).Start, room (goal.at.copy1-requires c).Start, c.copy4.auto.1.1.0)
+copy1-requires c = omega (arith, long (goal.at.copy1-requires c).Start, room (goal.at.copy1-requires c).Start, c.copy4.auto.o)
 
 pub mask_of-requires : goal.mask_of-requires
 mask_of-requires c = omega (arith, long (goal.at.mask_of-requires c).Start)
@@ -31,7 +31,7 @@ pub hrr_fields-requires : goal.hrr_fields-requires
 unfolding total
 hrr_fields-requires c =
     let m = ap (λ (k : ℕ). announced_length k 2 hrr_widths) c.mask_of.ensures in
-    record { held = omega (arith, long (goal.at.hrr_fields-requires c).Start); room = omega (arith, room (goal.at.hrr_fields-requires c).Start, m, c.copy1.auto.1.1.0, c.copy4.auto.1.1.0) }
+    record { held = omega (arith, long (goal.at.hrr_fields-requires c).Start); room = omega (arith, room (goal.at.hrr_fields-requires c).Start, m, c.copy1.auto.o, c.copy4.auto.o) }
 
 pub returns : goal.returns
 returns c =

@@ -9,4 +9,4 @@ use Rattle.spelling.proofs.put_piece.Goals as goal
 pub returns : goal.returns
 returns c =
     let a = c.args in
-    (refl, c.copy_to_32.ensures ∙ ap (sets a.o.now 0) (part-is a.b.now 1 (get_or a.b.now 0 0)))
+    record { value = refl; o_after = c.copy_to_32.ensures ∙ ap (sets a.o.now 0) (part-is a.b.now 1 (get_or a.b.now 0 0)) }

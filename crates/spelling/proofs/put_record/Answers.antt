@@ -26,10 +26,11 @@ target_fields-requires c =
 pub returns-then-kind-eq-KIND : goal.returns-then-kind-eq-KIND
 returns-then-kind-eq-KIND c =
     let a = c.args in
-    let e = c.if-kind-eq-KIND.true in (
-      omega (arith, c.target_fields.ensures.next, target-length a.leader.now a.kind a.b.now c.requires.0.0 e _ c.get_u64.ensures),
-      c.target_fields.ensures.stored ∙ ap (sets a.o.now 0) (target-spelt a.leader.now a.kind a.b.now e _ c.get_u64.ensures),
-    )
+    let e = c.if-kind-eq-KIND.true in
+    record {
+      value = omega (arith, c.target_fields.ensures.next, target-length a.leader.now a.kind a.b.now c.requires.0.0 e _ c.get_u64.ensures);
+      o_after = c.target_fields.ensures.stored ∙ ap (sets a.o.now 0) (target-spelt a.leader.now a.kind a.b.now e _ c.get_u64.ensures);
+    }
 
 pub put_piece-requires : goal.put_piece-requires
 put_piece-requires c =
@@ -41,10 +42,11 @@ put_piece-requires c =
 pub returns-then-kind-eq-KIND-2 : goal.returns-then-kind-eq-KIND-2
 returns-then-kind-eq-KIND-2 c =
     let a = c.args in
-    let e = c.if-kind-eq-KIND-2.true in (
-      c.put_piece.ensures.0 ∙ piece-length a.leader.now a.kind a.b.now c.requires.0.0 e (c.requires.0.4 e),
-      c.put_piece.ensures.1 ∙ ap (sets a.o.now 0) (piece-spelt a.leader.now a.kind a.b.now e),
-    )
+    let e = c.if-kind-eq-KIND-2.true in
+    record {
+      value = c.put_piece.ensures.value ∙ piece-length a.leader.now a.kind a.b.now c.requires.0.0 e (c.requires.0.4 e);
+      o_after = c.put_piece.ensures.o_after ∙ ap (sets a.o.now 0) (piece-spelt a.leader.now a.kind a.b.now e);
+    }
 
 pub put_leader-requires : goal.put_leader-requires
 put_leader-requires c =
@@ -58,4 +60,4 @@ pub returns : goal.returns
 returns c =
     let a = c.args in
     let e = leader-spelt a.leader.now a.kind a.b.now c.if-kind-eq-KIND.false c.if-kind-eq-KIND-2.false c.requires.0.5 in
-    (c.put_leader.ensures.0 ∙ ap length e, c.put_leader.ensures.1 ∙ ap (sets a.o.now 0) e)
+    record { value = c.put_leader.ensures.value ∙ ap length e; o_after = c.put_leader.ensures.o_after ∙ ap (sets a.o.now 0) e }

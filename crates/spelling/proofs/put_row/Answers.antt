@@ -15,7 +15,7 @@ put_scatterers-requires c =
 pub returns-then-kind-eq-KIND : goal.returns-then-kind-eq-KIND
 returns-then-kind-eq-KIND c =
     let put = c.put_scatterers in
-    subst (λ (k : ℕ). Put (record_in k c.args.b.now) c.args.rest.now c.args.o.now put.result put.new.1.1.0) (sym c.if-kind-eq-KIND.true) put.ensures
+    subst (λ (k : ℕ). Put (record_in k c.args.b.now) c.args.rest.now c.args.o.now put.result put.new.o) (sym c.if-kind-eq-KIND.true) put.ensures
 
 pub put_pieces-requires : goal.put_pieces-requires
 put_pieces-requires c =

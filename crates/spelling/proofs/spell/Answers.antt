@@ -3,7 +3,7 @@
 use borrow.Author.Tests.{not-true, not-false}
 use mathlib.Core.Path.{◌≡◌, sym, ap, ◌∙◌}
 use mathlib.Core.List.{[]}
-use Prim.Native.Nat.{◌+◌, ◌-◌, ◌≤◌}
+use Prim.Native.Nat.{◌+◌, ◌≤◌}
 use native.Mathlib.Omega.{arith}
 use lib.ListN.{length, drop, length-drop}
 use lib.Seq.{sets}
@@ -20,11 +20,11 @@ copy32-requires c =
 
 pub loop-kind-init : goal.loop-kind-init
 loop-kind-init c =
-    all_left c.args.x.now c.requires.0 _ c.requires.1 (omega (arith, c.copy32.auto.1.1.0, c.requires.2))
+    all_left c.args.x.now c.requires.0 _ c.requires.1 (omega (arith, c.copy32.auto.o, c.requires.2))
 
 pub shape_of-o-in-End : goal.shape_of-o-in-End
 shape_of-o-in-End c =
-    omega (arith, c.loop-kind.invariant.same, c.copy32.auto.1.1.0)
+    omega (arith, c.loop-kind.invariant.same, c.copy32.auto.o)
 
 -- where no record is left
 ended : (c : At-loop-kind)
@@ -39,7 +39,7 @@ returns-in-End c =
 
 pub shape_of-o-in-Cut : goal.shape_of-o-in-Cut
 shape_of-o-in-Cut c =
-    omega (arith, c.loop-kind.invariant.same, c.copy32.auto.1.1.0)
+    omega (arith, c.loop-kind.invariant.same, c.copy32.auto.o)
 
 pub returns-in-Cut : goal.returns-in-Cut
 returns-in-Cut c =
@@ -58,7 +58,7 @@ room t =
     omega (arith, has_room _ _ _ _ _ _ _ l.invariant _ _ (here t), l.invariant.same)
 
 pub overflow_add-from : goal.overflow_add-from
-overflow_add-from c = omega (arith, (here (goal.at.overflow_add-from c).In-Whole).within, (here (goal.at.overflow_add-from c).In-Whole).ranges)
+overflow_add-from c = omega (arith, (here (goal.at.overflow_add-from c).In-Whole).within, (here (goal.at.overflow_add-from c).In-Whole).fits)
 
 pub slice_bounds-put_next-count : goal.slice_bounds-put_next-count
 slice_bounds-put_next-count c = c.loop-kind.invariant.leader.within
@@ -105,16 +105,16 @@ put_next-step-requires c =
 put-long : (p : After-put_next-step) → let l = p.loop-kind in
     p.put_next-step.result.written ≡ length (adds _ _ l.o l.at l.to l.begins l.ends l.invariant _ _ (here (goal.at.After-put_next-step p).In-Whole))
 put-long p =
-    rw (tail-is p.in-Whole.end p.args.x.now) at p.put_next-step.ensures.0.1
+    rw (tail-is p.in-Whole.end p.args.x.now) at p.put_next-step.ensures.read_value.1
 
 put-within : (p : After-put_next-step) → p.in-Whole.end + p.put_next-step.result.read ≤ length p.args.x.now
 put-within p =
     let l = p.loop-kind in
-    omega (arith, then-within _ _ _ _ _ _ _ l.invariant _ _ (here (goal.at.After-put_next-step p).In-Whole), p.put_next-step.ensures.0.0)
+    omega (arith, then-within _ _ _ _ _ _ _ l.invariant _ _ (here (goal.at.After-put_next-step p).In-Whole), p.put_next-step.ensures.read_value.0)
 
 pub overflow_add-to : goal.overflow_add-to
 overflow_add-to c =
-    omega (arith, put-long (goal.at.overflow_add-to c).After-put_next-step, room (goal.at.overflow_add-to c).In-Whole, c.loop-kind.invariant.same, c.copy32.auto.1.1.0, c.well_formed)
+    omega (arith, put-long (goal.at.overflow_add-to c).After-put_next-step, room (goal.at.overflow_add-to c).In-Whole, c.loop-kind.invariant.same, c.copy32.auto.o, c.well_formed)
 
 pub overflow_add-at : goal.overflow_add-at
 overflow_add-at c =
@@ -126,8 +126,8 @@ loop-kind-smaller-then-not-is_follower c = omega (arith, (here (goal.at.loop-kin
 pub loop-kind-preserved-then-not-is_follower : goal.loop-kind-preserved-then-not-is_follower
 loop-kind-preserved-then-not-is_follower c =
     let l = c.loop-kind in
-    let stored_next = rw (tail-is c.in-Whole.end c.args.x.now) at c.put_next-step.ensures.1 in
-    stored _ _ _ _ _ _ _ l.invariant _ _ (here (goal.at.loop-kind-preserved-then-not-is_follower c).In-Whole) _ _ (put-long (goal.at.loop-kind-preserved-then-not-is_follower c).After-put_next-step) c.put_next-step.ensures.0.0 stored_next
+    let stored_next = rw (tail-is c.in-Whole.end c.args.x.now) at c.put_next-step.ensures.o_after in
+    stored _ _ _ _ _ _ _ l.invariant _ _ (here (goal.at.loop-kind-preserved-then-not-is_follower c).In-Whole) _ _ (put-long (goal.at.loop-kind-preserved-then-not-is_follower c).After-put_next-step) c.put_next-step.ensures.read_value.0 stored_next
     (turned-leader _ _ _ _ _ _ _ l.invariant _ _ (here (goal.at.loop-kind-preserved-then-not-is_follower c).In-Whole) (sym c.is_follower.ensures ∙ not-true _ c.if-not-is_follower.true-raw))
 
 pub loop-kind-smaller : goal.loop-kind-smaller
@@ -136,6 +136,6 @@ loop-kind-smaller c = omega (arith, (here (goal.at.loop-kind-smaller c).In-Whole
 pub loop-kind-preserved : goal.loop-kind-preserved
 loop-kind-preserved c =
     let l = c.loop-kind in
-    let stored_next = rw (tail-is c.in-Whole.end c.args.x.now) at c.put_next-step.ensures.1 in
-    stored _ _ _ _ _ _ _ l.invariant _ _ (here (goal.at.loop-kind-preserved c).In-Whole) _ _ (put-long (goal.at.loop-kind-preserved c).After-put_next-step) c.put_next-step.ensures.0.0 stored_next
+    let stored_next = rw (tail-is c.in-Whole.end c.args.x.now) at c.put_next-step.ensures.o_after in
+    stored _ _ _ _ _ _ _ l.invariant _ _ (here (goal.at.loop-kind-preserved c).In-Whole) _ _ (put-long (goal.at.loop-kind-preserved c).After-put_next-step) c.put_next-step.ensures.read_value.0 stored_next
     (turned-follower _ _ _ _ _ _ _ l.invariant _ _ (here (goal.at.loop-kind-preserved c).In-Whole) (sym c.is_follower.ensures ∙ not-false _ c.if-not-is_follower.false-raw))

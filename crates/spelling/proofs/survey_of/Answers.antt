@@ -3,8 +3,6 @@
 -- Assumes nothing.
 use native.Mathlib.Omega.{arith}
 use mathlib.Core.Path.{sym, ◌∙◌}
-use Prim.Native.Nat.{◌-◌}
-use lib.ListN.{length}
 use Rattle.sheet_walk.proofs.Places.{WholeAt, at_place}
 use Rattle.spelling.proofs.Surveyed.{Walked, no-header, start, at-end, at_cut, again, onward, turn, past-passed}
 use Rattle.spelling.proofs.survey_of.Goals as goal
@@ -29,8 +27,7 @@ returns-in-End c =
 
 -- the record in a turn
 here : (c : In-Whole)
-    → let k = c.kind-1.given.0 in
-    WholeAt c.args.x.now c.loop-kind.at k.0 k.1.0
+    → WholeAt c.args.x.now c.loop-kind.at c.in-Whole.kind c.in-Whole.end
 here c = at_place _ _ c.record_at.ensures c.in-Whole.is
 
 pub returns-then-kind-eq-KIND : goal.returns-then-kind-eq-KIND
@@ -60,8 +57,7 @@ returns-in-Misplaced c =
     ∙ sym (onward _ _ _ _ _ l.invariant _ _ (here (goal.at.returns-in-Misplaced c).In-Whole) c.if-kind-eq-KIND.false (sym c.in-Misplaced.is ∙ c.count.ensures))
 
 -- what is kept behind the record
-behind : (c : In-Then) → let f = c.f-1.given.0 in
-    Walked c.args.x.now c.in-Whole.end f.0 f.1.0 f.1.1.0
+behind : (c : In-Then) → Walked c.args.x.now c.in-Whole.end c.in-Then.f c.in-Then.l c.in-Then.s
 behind c =
     let l = c.loop-kind in
     turn _ _ _ _ _ l.invariant _ _ (here (goal.at.In-Then c).In-Whole) c.if-kind-eq-KIND.false _ _ _ (sym c.in-Then.is ∙ c.count.ensures)
