@@ -2,6 +2,7 @@
 -- Assumes nothing.
 use Prim.Native.Nat.{ℕ, ◌≤◌}
 use native.Mathlib.Omega.{arith}
+use borrow.Author.Rules.{rules}
 use mathlib.Core.Path.{◌≡◌, sym, ◌∙◌}
 use mathlib.Core.List.{List}
 use lib.ListN.{length}
@@ -80,7 +81,7 @@ location_records-requires c = let e = c.in-13.is in (kept-length 23 c.args.b.now
 -- a segment of another type
 other : (c : In_default) → let a = c.args in
     bytes_of a.r a.segment_type a.b.now ≡ record_bytes (opaque_records a.segment_type a.b.now)
-other c = let a = c.args in bytes-other a.r a.b.now a.segment_type c.in_default.rest
+other c = let a = c.args in bytes-other a.r a.b.now a.segment_type (search rules)
 
 pub opaque_records-requires-in_default : goal.opaque_records-requires-in_default
 opaque_records-requires-in_default c =

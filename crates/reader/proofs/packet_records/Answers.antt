@@ -13,13 +13,6 @@ use Rattle.segments.proofs.Turning.{Left, bytes_left, all_left, headed, Turn, tu
 use Rattle.reader.proofs.packet_records.Goals as goal
 use Rattle.reader.proofs.packet_records.Goals.{After-size_at-size}
 
--- what is left to lay out has room, and laid out it gives the sheet
-pub record Filled (r : Reading) (l o₀ o : List ℕ) (at to : ℕ) : Type 0 where
-  pub left : Left r l at
-  pub same : length o ≡ length o₀
-  pub room : to + length (bytes_left left) ≤ length o₀
-  pub rest : sets o to (bytes_left left) ≡ sets o₀ 0 (all_bytes r l)
-
 -- the segment of a turn
 here : (c : After-size_at-size) → let a = c.args in
     Turn a.r a.l.now c.loop-at.at c.loop-at.invariant.left c.size_at-size.result

@@ -17,18 +17,15 @@ use Rattle.reader.proofs.set_out.Goals.{After-header_record, After-reading_of-r}
 
 -- what is known of the packet, where its reading is
 module _ (c : After-reading_of-r) where
-  abbrev start : Start
-  start = c
-
   abbrev packet : List ℕ
-  packet = start.args.packet.now
+  packet = c.args.packet.now
 
-  known : Whole start.args.settings packet c.reading_of-r.result
-  known = whole start.args.settings packet c.reading_of-r.result start.pre.0 c.reading_of-r.ensures
+  known : Whole c.args.settings packet c.reading_of-r.result
+  known = whole c.args.settings packet c.reading_of-r.result c.requires.0 c.reading_of-r.ensures
 
 pub header_record-requires : goal.header_record-requires
 unfolding body_length
-header_record-requires c = ((known (goal.at.header_record-requires c).After-reading_of-r).headed, omega (arith, (known (goal.at.header_record-requires c).After-reading_of-r).sheet-length, (start (goal.at.header_record-requires c).After-reading_of-r).requires.1))
+header_record-requires c = ((known (goal.at.header_record-requires c).After-reading_of-r).headed, omega (arith, (known (goal.at.header_record-requires c).After-reading_of-r).sheet-length, c.requires.1))
 
 pub slice_bounds-packet_records-count : goal.slice_bounds-packet_records-count
 slice_bounds-packet_records-count c = omega (arith, (known (goal.at.slice_bounds-packet_records-count c).After-reading_of-r).headed)
@@ -38,7 +35,7 @@ slice_bounds-packet_records-start c = omega (arith, (known (goal.at.slice_bounds
 
 -- the sheet has room behind the header's record
 room : (c : After-header_record) → record_length 1 + length (all_bytes c.reading_of-r.result (behind (packet (goal.at.After-header_record c).After-reading_of-r))) ≤ length c.header_record.new.o
-room c = omega (arith, c.header_record.auto, (known (goal.at.After-header_record c).After-reading_of-r).sheet-length, (start (goal.at.After-header_record c).After-reading_of-r).requires.1)
+room c = omega (arith, c.header_record.auto, (known (goal.at.After-header_record c).After-reading_of-r).sheet-length, c.requires.1)
 
 pub slice_bounds-packet_records-count-2 : goal.slice_bounds-packet_records-count-2
 slice_bounds-packet_records-count-2 c = omega (arith, room (goal.at.slice_bounds-packet_records-count-2 c).After-header_record)
@@ -53,5 +50,5 @@ packet_records-requires c =
 
 pub returns : goal.returns
 returns c =
-    let lent = (start (goal.at.returns c).After-reading_of-r).args.sheet.now in
+    let lent = c.args.sheet.now in
     laid-behind (packet (goal.at.returns c).After-reading_of-r) lent c.header_record.new.o _ _ c.header_record.ensures c.packet_records.ensures ∙ sym (ap (sets lent 0) (known (goal.at.returns c).After-reading_of-r).sheet-is)
