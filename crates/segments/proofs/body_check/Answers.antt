@@ -1,5 +1,6 @@
 -- `segments::body_check` meets its contract. Each type's check answers the first of the type's rows that applies.
 -- Assumes nothing.
+use Rattle.std.proofs.Common.{rules}
 use mathlib.Core.Path.{◌≡◌, sym, ◌∙◌}
 use Prim.Native.Nat.{ℕ}
 use Rattle.format.specs.declared.Check.{Check}
@@ -48,4 +49,4 @@ unfolding body_rows is_hrr
 returns-in-13 c = is (goal.at.returns-in-13 c).Start 13 c.in-13.is c.kept_check-in-13.ensures
 
 pub returns-in_default : goal.returns-in_default
-returns-in_default c = let a = c.args in row_other a.r a.b.now a.segment_type c.in_default.rest
+returns-in_default c = let a = c.args in row_other a.r a.b.now a.segment_type (search rules)

@@ -16,22 +16,22 @@ use Rattle.segments.proofs.different_pairs.Goals.{After-pairs_of-n}
 
 -- the pairs stand at the front of the lent array
 front : (c : After-pairs_of-n) → let a = c.args in
-    take c.pairs_of-n.result c.pairs_of-n.new.1.1.0 ≡ pair_numbers (segments_of a.r a.l.now)
+    take c.pairs_of-n.result c.pairs_of-n.new.o ≡ pair_numbers (segments_of a.r a.l.now)
 front c =
     let e = c.pairs_of-n.ensures in
-    stored-front _ _ e.1 e.0.0 (omega (arith, e.0.0, e.0.1))
+    stored-front _ _ e.o_after e.value.0 (omega (arith, e.value.0, e.value.1))
 
 -- which is as long as before
-as_long : (c : After-pairs_of-n) → length c.pairs_of-n.new.1.1.0 ≡ length c.args.o.now
+as_long : (c : After-pairs_of-n) → length c.pairs_of-n.new.o ≡ length c.args.o.now
 as_long c =
     let a = c.args in
-    ap length c.pairs_of-n.ensures.1 ∙ length-sets a.o.now 0 (pair_numbers (segments_of a.r a.l.now))
+    ap length c.pairs_of-n.ensures.o_after ∙ length-sets a.o.now 0 (pair_numbers (segments_of a.r a.l.now))
 
 pub slice_bounds-count_different-end : goal.slice_bounds-count_different-end
-slice_bounds-count_different-end c = omega (arith, as_long (goal.at.slice_bounds-count_different-end c).After-pairs_of-n, c.pairs_of-n.ensures.0.1)
+slice_bounds-count_different-end c = omega (arith, as_long (goal.at.slice_bounds-count_different-end c).After-pairs_of-n, c.pairs_of-n.ensures.value.1)
 
 pub slice_bounds-count_different-end-2 : goal.slice_bounds-count_different-end-2
-slice_bounds-count_different-end-2 c = c.pairs_of-n.ensures.0.0 ∙ sym (ap length (front (goal.at.slice_bounds-count_different-end-2 c).After-pairs_of-n))
+slice_bounds-count_different-end-2 c = c.pairs_of-n.ensures.value.0 ∙ sym (ap length (front (goal.at.slice_bounds-count_different-end-2 c).After-pairs_of-n))
 
 pub shape_of-o : goal.shape_of-o
 shape_of-o c = as_long (goal.at.shape_of-o c).After-pairs_of-n
@@ -40,4 +40,4 @@ pub returns : goal.returns
 returns c =
     c.count_different.ensures
     ∙ ap (λ (x : List ℕ). length (without_repeats eqb x)) (front (goal.at.returns c).After-pairs_of-n)
-    ∙ numbers-are c.args.r c.args.l.now (λ i. (c.shared_slice_known-1.given i).fits)
+    ∙ numbers-are c.args.r c.args.l.now (λ i. (c.type_inv.l i).fits)

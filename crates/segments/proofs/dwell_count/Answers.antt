@@ -13,4 +13,4 @@ returns-then-dwells-eq0 c =
     let none = sym (ap (λ (d : Dwells). d.falls) passed) ∙ c.if-dwells-eq0.true in
     ap (λ (d : Dwells). d.rises) passed
     ∙ rising-are (segments_of c.args.r l) none
-    ∙ numbers-are c.args.r l (λ i. (c.shared_slice_known-1.given i).fits)
+    ∙ numbers-are c.args.r l (λ i. (c.type_inv.l i).fits)

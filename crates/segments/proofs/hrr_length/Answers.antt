@@ -6,4 +6,4 @@ use Rattle.hrr.specs.declared.Scatterers.{Scatterers}
 use Rattle.segments.proofs.hrr_length.Goals as goal
 
 pub returns : goal.returns
-returns c = omega (arith, ap (λ (s : Scatterers). s.count) c.scatterers_in-s.ensures.0.0)
+returns c = omega (arith, ap (λ (s : Scatterers). s.count) c.scatterers_in-s.ensures.value.0)

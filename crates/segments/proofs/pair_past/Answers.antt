@@ -4,31 +4,36 @@ use Prim.Native.Nat.{◌+◌, ◌≤◌}
 use native.Mathlib.Omega.{arith}
 use mathlib.Core.Path.{◌≡◌}
 use mathlib.Core.Bool.{cond}
-use mathlib.Core.Logic.{⊎_elim}
 use borrow.Author.Tests.{le-leb, lt-leb}
 use lib.Dec.{leb}
 use Rattle.segments.specs.InnerWalk.{past_pair}
 use Rattle.segments.proofs.pair_past.Goals as goal
-use Rattle.segments.proofs.pair_past.Goals.{Joined-dwells-above, Joined-dwells-number}
+use Rattle.segments.proofs.pair_past.Goals.{Joined-dwells-above, Joined-dwells-number, then-dwells-number, else-dwells-number, then-dwells-above, else-dwells-above}
 
 -- a pair above the last one is a rise
 rose : (c : Joined-dwells-number) → let a = c.args in c.if-dwells-number.risen ≡ cond (leb a.dwells.above a.pair) 1 0
 rose c =
     let a = c.args in
-    ⊎_elim (λ w. rw (le-leb a.dwells.above a.pair w.0.taken) w.1) (λ w. rw (lt-leb a.dwells.above a.pair w.0.left) w.1) c.if-dwells-number.branch
+    elim c.if-dwells-number.branch [
+      | then-dwells-number w ↦ rw (le-leb a.dwells.above a.pair w.if-dwells-number.true) w.risen-is
+      | else-dwells-number w ↦ rw (lt-leb a.dwells.above a.pair w.if-dwells-number.false) w.risen-is
+    ]
 
 -- one below it is a fall
 fell : (c : Joined-dwells-above) → let a = c.args in c.if-dwells-above.fallen ≡ cond (leb a.dwells.above (a.pair + 1)) 0 1
 fell c =
     let a = c.args in
-    ⊎_elim (λ w. rw (le-leb a.dwells.above (a.pair + 1) w.0.taken) w.1) (λ w. rw (lt-leb a.dwells.above (a.pair + 1) w.0.left) w.1) c.if-dwells-above.branch
+    elim c.if-dwells-above.branch [
+      | then-dwells-above w ↦ rw (le-leb a.dwells.above (a.pair + 1) w.if-dwells-above.true) w.fallen-is
+      | else-dwells-above w ↦ rw (lt-leb a.dwells.above (a.pair + 1) w.if-dwells-above.false) w.fallen-is
+    ]
 
 -- neither adds more than one
 rose-one : (c : Joined-dwells-number) → c.if-dwells-number.risen ≤ 1
-rose-one c = ⊎_elim (λ w. omega (arith, w.1)) (λ w. omega (arith, w.1)) c.if-dwells-number.branch
+rose-one c = elim c.if-dwells-number.branch [ then-dwells-number w ↦ omega arith | else-dwells-number w ↦ omega arith ]
 
 fell-one : (c : Joined-dwells-above) → c.if-dwells-above.fallen ≤ 1
-fell-one c = ⊎_elim (λ w. omega (arith, w.1)) (λ w. omega (arith, w.1)) c.if-dwells-above.branch
+fell-one c = elim c.if-dwells-above.branch [ then-dwells-above w ↦ omega arith | else-dwells-above w ↦ omega arith ]
 
 pub overflow_add-result : goal.overflow_add-result
 overflow_add-result c = omega (arith, rose-one (goal.at.overflow_add-result c).Joined-dwells-number, c.requires.0)

@@ -2,6 +2,7 @@
 -- Assumes nothing.
 use Prim.Native.Nat.{ℕ}
 use native.Mathlib.Omega.{arith}
+use Rattle.std.proofs.Common.{rules}
 use mathlib.Core.Path.{◌≡◌, refl, sym, ap, ◌∙◌}
 use lib.ListN.{length}
 use Rattle.format.specs.Edition.{is_hrr}
@@ -65,4 +66,4 @@ returns-in-13 c = is (goal.at.returns-in-13 c).Start 13 c.in-13.is refl
 pub returns-in_default : goal.returns-in_default
 returns-in_default c =
     let a = c.args in
-    length-as-opaque a.r a.b.now a.segment_type (bytes-other a.r a.b.now a.segment_type c.in_default.rest) c.opaque_length-in_default.ensures
+    length-as-opaque a.r a.b.now a.segment_type (bytes-other a.r a.b.now a.segment_type (search rules)) c.opaque_length-in_default.ensures
