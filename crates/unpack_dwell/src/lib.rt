@@ -1,5 +1,6 @@
 // D2 to D31 of a dwell at full widths: from p on in s, to q on in o. Each function answers where the next field begins in s.
-#![tactic(auto)]
+// What a call requires is found without an answer once these two definitions are open.
+#![tactic(auto, unfolding(mask::specs::Fields::announced_length, octets::specs::Layout::total))]
 
 ghost use Rattle.mask.specs.Fields.{dwell_widths};
 ghost use Rattle.mask.specs.InnerFields.{widths, Required};

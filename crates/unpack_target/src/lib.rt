@@ -1,6 +1,7 @@
 // D32.1 to D32.18 of a target at full widths: from p on in s, to q on in o. Each function answers where the next field begins in s.
 // Fields that mostly come together are copied as one block where the mask has them all, and cleared as one where it has none.
-#![tactic(auto)]
+// What a call requires is found without an answer once these two definitions are open.
+#![tactic(auto, unfolding(mask::specs::Fields::announced_length, octets::specs::Layout::total))]
 
 ghost use Rattle.mask.specs.Fields.{d32, target_widths};
 ghost use Rattle.mask.specs.InnerFields.{widths};

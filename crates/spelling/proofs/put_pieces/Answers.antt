@@ -13,7 +13,7 @@ use Rattle.sheet_walk.specs.InnerShape.{BeginsWith}
 use Rattle.spelling.specs.InnerSpelling.{row_behind, row_given, given_in_row, read_next, carried_all, record_in}
 use Rattle.spelling.proofs.Nexts.{text-due, opaque-due, pieces-row, read_is, pieces-given, length-carried}
 use Rattle.spelling.proofs.put_pieces.Goals as goal
-use Rattle.spelling.proofs.put_pieces.Goals.{After-in_pieces, After-slice_known-2-1, Start}
+use Rattle.spelling.proofs.put_pieces.Goals.{After-in_pieces, After-put_full_pieces, Start}
 
 -- pieces are due, as many bytes of them as are left
 of-pieces : (d : Due) (m : ℕ) → d ≡ due 6 m → d ≡ due 6 d.left
@@ -57,29 +57,29 @@ put_full_pieces-requires c =
     (omega (arith, (begins (goal.at.put_full_pieces-requires c).Start).long, count-is (goal.at.put_full_pieces-requires c).After-in_pieces), omega (arith, given-length (goal.at.put_full_pieces-requires c).Start, c.requires.2.1, count-is (goal.at.put_full_pieces-requires c).After-in_pieces))
 
 -- what it takes on the sheet and in the packet
-module _ (c : After-slice_known-2-1) where
-  counts : c.in_pieces.result / 32 ≡ many (goal.at.After-slice_known-2-1 c).Start
-  counts = count-is (goal.at.After-slice_known-2-1 c).After-in_pieces
+module _ (c : After-put_full_pieces) where
+  counts : c.in_pieces.result / 32 ≡ many (goal.at.After-put_full_pieces c).Start
+  counts = count-is (goal.at.After-put_full_pieces c).After-in_pieces
 
   mul-read : c.in_pieces.result / 32 * record_length 6 ≤ length c.args.rest.now
-  mul-read = omega (arith, (begins (goal.at.After-slice_known-2-1 c).Start).long, counts)
+  mul-read = omega (arith, (begins (goal.at.After-put_full_pieces c).Start).long, counts)
 
   mul-written : c.in_pieces.result / 32 * 32 ≤ length c.args.rest.now
   mul-written = omega (arith, mul-read)
 
 pub overflow_mul-result : goal.overflow_mul-result
-overflow_mul-result c = omega (arith, mul-read (goal.at.overflow_mul-result c).After-slice_known-2-1, c.well_formed)
+overflow_mul-result c = omega (arith, mul-read (goal.at.overflow_mul-result c).After-put_full_pieces, c.well_formed)
 
 pub overflow_mul-result-2 : goal.overflow_mul-result-2
-overflow_mul-result-2 c = omega (arith, mul-written (goal.at.overflow_mul-result-2 c).After-slice_known-2-1, c.well_formed)
+overflow_mul-result-2 c = omega (arith, mul-written (goal.at.overflow_mul-result-2 c).After-put_full_pieces, c.well_formed)
 
 pub returns : goal.returns
 returns c =
     record {
-      read_is = ap (λ (n : ℕ). n * record_length 6) (counts (goal.at.returns c).After-slice_known-2-1) ∙ read_all (goal.at.returns c).Start;
-      written_is = ap (λ (n : ℕ). n * 32) (counts (goal.at.returns c).After-slice_known-2-1) ∙ sym (given-length (goal.at.returns c).Start);
+      read_is = ap (λ (n : ℕ). n * record_length 6) (counts (goal.at.returns c).After-put_full_pieces) ∙ read_all (goal.at.returns c).Start;
+      written_is = ap (λ (n : ℕ). n * 32) (counts (goal.at.returns c).After-put_full_pieces) ∙ sym (given-length (goal.at.returns c).Start);
       stored =
           c.put_full_pieces.ensures
-          ∙ ap (λ (n : ℕ). sets c.args.o.now 0 (carried_all n c.args.rest.now)) (counts (goal.at.returns c).After-slice_known-2-1)
+          ∙ ap (λ (n : ℕ). sets c.args.o.now 0 (carried_all n c.args.rest.now)) (counts (goal.at.returns c).After-put_full_pieces)
           ∙ sym (ap (sets c.args.o.now 0) (given_is (goal.at.returns c).Start));
     }

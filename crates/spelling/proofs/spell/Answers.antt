@@ -1,6 +1,5 @@
 -- `spelling::spell` meets its contract. The header is copied; the loop keeps that what is left to spell, stored, gives the packet.
 -- Assumes nothing.
-use borrow.Author.Tests.{not-true, not-false}
 use mathlib.Core.Path.{◌≡◌, sym, ap, ◌∙◌}
 use mathlib.Core.List.{[]}
 use Prim.Native.Nat.{◌+◌, ◌≤◌}
@@ -128,7 +127,7 @@ loop-kind-preserved-then-not-is_follower c =
     let l = c.loop-kind in
     let stored_next = rw (tail-is c.in-Whole.end c.args.x.now) at c.put_next-step.ensures.o_after in
     stored _ _ _ _ _ _ _ l.invariant _ _ (here (goal.at.loop-kind-preserved-then-not-is_follower c).In-Whole) _ _ (put-long (goal.at.loop-kind-preserved-then-not-is_follower c).After-put_next-step) c.put_next-step.ensures.read_value.0 stored_next
-    (turned-leader _ _ _ _ _ _ _ l.invariant _ _ (here (goal.at.loop-kind-preserved-then-not-is_follower c).In-Whole) (sym c.is_follower.ensures ∙ not-true _ c.if-not-is_follower.true-raw))
+    (turned-leader _ _ _ _ _ _ _ l.invariant _ _ (here (goal.at.loop-kind-preserved-then-not-is_follower c).In-Whole) (sym c.is_follower.ensures ∙ c.if-not-is_follower.true))
 
 pub loop-kind-smaller : goal.loop-kind-smaller
 loop-kind-smaller c = omega (arith, (here (goal.at.loop-kind-smaller c).In-Whole).within, put-within (goal.at.loop-kind-smaller c).After-put_next-step)
@@ -138,4 +137,4 @@ loop-kind-preserved c =
     let l = c.loop-kind in
     let stored_next = rw (tail-is c.in-Whole.end c.args.x.now) at c.put_next-step.ensures.o_after in
     stored _ _ _ _ _ _ _ l.invariant _ _ (here (goal.at.loop-kind-preserved c).In-Whole) _ _ (put-long (goal.at.loop-kind-preserved c).After-put_next-step) c.put_next-step.ensures.read_value.0 stored_next
-    (turned-follower _ _ _ _ _ _ _ l.invariant _ _ (here (goal.at.loop-kind-preserved c).In-Whole) (sym c.is_follower.ensures ∙ not-false _ c.if-not-is_follower.false-raw))
+    (turned-follower _ _ _ _ _ _ _ l.invariant _ _ (here (goal.at.loop-kind-preserved c).In-Whole) (sym c.is_follower.ensures ∙ c.if-not-is_follower.false))

@@ -2,9 +2,8 @@
 -- Assumes nothing.
 use mathlib.Core.Path.{refl}
 use native.Mathlib.Omega.{arith}
-use borrow.Author.Rules.{rules}
 use Rattle.octets.specs.Layout.{total}
-use Rattle.mask.specs.Fields.{announced, announced_length}
+use Rattle.mask.specs.Fields.{announced}
 use Rattle.unpack.proofs.Lines.{onward, copied-needs, copied}
 use Rattle.unpack_target.proofs.behind.Goals as goal
 
@@ -22,15 +21,3 @@ pub returns-else-has_all : goal.returns-else-has_all
 unfolding total
 returns-else-has_all c =
     onward c.middle-a.ensures c.d32_16_and_17.ensures
-
-pub has_all-requires : goal.has_all-requires
-unfolding announced_length total
-has_all-requires c = search rules
-
-pub middle-a-requires : goal.middle-a-requires
-unfolding announced_length total
-middle-a-requires c = search rules
-
-pub d32_16_and_17-requires : goal.d32_16_and_17-requires
-unfolding announced_length total
-d32_16_and_17-requires c = search rules

@@ -31,11 +31,3 @@ pub returns : goal.returns
 unfolding total
 returns c =
     onward (onward (onward (onward c.field1-a.ensures c.field2_onto_zeros-b.ensures) c.field2_onto_zeros-c.ensures) c.field1-d.ensures) c.field2_onto_zeros.ensures
-
-pub field1-a-requires : goal.field1-a-requires
-unfolding announced_length total
-field1-a-requires c = search rules
-
-pub field1-d-requires : goal.field1-d-requires
-unfolding announced_length total
-field1-d-requires c = search rules

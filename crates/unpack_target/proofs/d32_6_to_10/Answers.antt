@@ -30,11 +30,3 @@ pub returns : goal.returns
 unfolding total
 returns c =
     onward (onward (onward (onward c.field2_onto_zeros-a.ensures c.field2_onto_zeros-b.ensures) c.field2_onto_zeros-c.ensures) c.field1-d.ensures) c.field1.ensures
-
-pub field1-d-requires : goal.field1-d-requires
-unfolding announced_length total
-field1-d-requires c = search rules
-
-pub field1-requires : goal.field1-requires
-unfolding announced_length total
-field1-requires c = search rules

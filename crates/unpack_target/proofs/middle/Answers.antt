@@ -41,19 +41,3 @@ pub returns-else-has_none : goal.returns-else-has_none
 unfolding total
 returns-else-has_none c =
     onto-zeros c.clear16-else-has_none.ensures (onward c.d32_6_to_10-a.ensures c.d32_11_to_15.ensures)
-
-pub has_all-requires : goal.has_all-requires
-unfolding announced_length total
-has_all-requires c = search rules
-
-pub has_none-requires : goal.has_none-requires
-unfolding announced_length total
-has_none-requires c = search rules
-
-pub clear16-requires : goal.clear16-requires
-unfolding announced_length total
-clear16-requires c = search rules
-
-pub clear16-requires-else-has_none : goal.clear16-requires-else-has_none
-unfolding announced_length total
-clear16-requires-else-has_none c = search rules
