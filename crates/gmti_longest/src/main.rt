@@ -6,6 +6,8 @@ ghost use Rattle.std.specs.Prelude.{◌≡◌, ◌+◌, ◌*◌, ◌≤◌, leng
 ghost use Rattle.std.proofs.lemmas.List.Edits.{sets};
 ghost use Rattle.gmti_longest.specs.Longest.{without_line_feed, asked, delta_packet, written};
 
+use std::io;
+
 // The packet's bytes in front of its targets: its header, the segment's, the mask, D2 to D11, D24 to D27. The bytes of each target, and the
 // most that fit.
 const FRONT: usize = format::HeaderRecord::LEN + 5 + 8 + 31 + 12;
@@ -75,26 +77,31 @@ fn answer(input: &[u8], o: &mut [u8]) -> usize
 // The first 7 bytes of an input decide what is written for it (specs/Input.antt), so no more are read.
 const INPUT: usize = 7;
 
-fn run(input: &mut [u8], packet: &mut [u8])
+fn run(rt: &(impl io::Input + Print + Eprint), input: &mut [u8], packet: &mut [u8])
     requires { (7 ≤ length input.old) × (65536 ≤ length packet.old) }
 {
-    let read = streams::read_all(b"gmti_longest: standard input", input);
+    let read = streams::read_all(rt, b"gmti_longest: standard input", input);
     let streams::Input::Read(n) = read else {
         return;
     };
     let length = answer(printing::front(input, n), packet);
     streams::write_all(
+        rt,
         b"gmti_longest: standard output is cut",
         printing::front(packet, length),
     );
 }
 
-fn run_in(input: &mut [u8; INPUT], packet: &mut [u8; format::LONGEST_PACKET]) {
-    run(input, packet);
+fn run_in(
+    rt: &(impl io::Input + Print + Eprint),
+    input: &mut [u8; INPUT],
+    packet: &mut [u8; format::LONGEST_PACKET],
+) {
+    run(rt, input, packet);
 }
 
-fn main() {
+fn main(rt: HostRuntime) {
     let mut input = [0u8; INPUT];
     let mut packet = [0u8; format::LONGEST_PACKET];
-    run_in(&mut input, &mut packet);
+    run_in(&rt, &mut input, &mut packet);
 }

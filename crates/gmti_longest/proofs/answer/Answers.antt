@@ -6,9 +6,10 @@ use Rattle.gmti_longest.proofs.answer.Goals as goal
 
 pub returns-then-k-eq0 : goal.returns-then-k-eq0
 returns-then-k-eq0 c =
-    written_none c.args.input.now c.args.o.now c.asked-k.ensures.0 c.if-k-eq0.true
+    let none = written_none c.args.input.now c.args.o.now c.asked-k.ensures.0 c.if-k-eq0.true in
+    record { value = none.0; o_after = none.1 }
 
 pub returns : goal.returns
 returns c =
     let packet = written-packet c.args.input.now c.args.o.now c.asked-k.ensures.0 c.if-k-eq0.false c.lay_out.ensures.1 in
-    (c.lay_out.ensures.0 ∙ packet.0, packet.1)
+    record { value = c.lay_out.ensures.0 ∙ packet.0; o_after = packet.1 }
