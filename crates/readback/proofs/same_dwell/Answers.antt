@@ -4,7 +4,6 @@ use Prim.Native.Nat.{ℕ, ◌-◌, ◌≤◌}
 use native.Mathlib.Omega.{arith}
 use mathlib.Core.Path.{refl, sym, ap, ◌∙◌}
 use mathlib.Core.List.{List}
-use borrow.Author.Tests.{not-true, not-false}
 use lib.ListN.{length, take, drop}
 use Rattle.octets.proofs.Parts.{tail-is}
 use Rattle.format.specs.Dwell.{mask_of, targets_of}
@@ -47,7 +46,7 @@ pub returns-then-not-is_front : goal.returns-then-not-is_front
 unfolding dwell_records
 returns-then-not-is_front c =
     let a = c.args in
-    record-differs (dwell_record a.r a.b.now) _ a.x.now a.window.now _ (record_length 3) c.dwell_record.ensures (dwell-length a.r a.b.now) (omega (arith, c.requires.2)) (omega (arith, c.requires.1)) c.is_front.ensures (not-true _ c.if-not-is_front.true-raw)
+    record-differs (dwell_record a.r a.b.now) _ a.x.now a.window.now _ (record_length 3) c.dwell_record.ensures (dwell-length a.r a.b.now) (omega (arith, c.requires.2)) (omega (arith, c.requires.1)) c.is_front.ensures c.if-not-is_front.true
 
 pub slice_bounds-same_targets-count : goal.slice_bounds-same_targets-count
 slice_bounds-same_targets-count c = within (goal.at.slice_bounds-same_targets-count c).After-plan_of-p
@@ -76,5 +75,5 @@ returns c =
     let rest =
     ap (λ (t : List ℕ). target_records p.result.mask p.result.area p.result.count t) (targets_are b p.result p.ensures.0)
     ∙ ap (λ (q : Plan). target_records q.mask q.area q.count (targets_of b)) p.ensures.0 in
-    record_same (dwell_record a.r b) _ a.x.now a.window.now _ (record_length 3) c.dwell_record.ensures (dwell-length a.r b) (omega (arith, c.requires.2)) (omega (arith, c.requires.1)) c.is_front.ensures y (not-false _ c.if-not-is_front.false-raw) (tail-is (record_length 3) a.x.now)
+    record_same (dwell_record a.r b) _ a.x.now a.window.now _ (record_length 3) c.dwell_record.ensures (dwell-length a.r b) (omega (arith, c.requires.2)) (omega (arith, c.requires.1)) c.is_front.ensures y c.if-not-is_front.false (tail-is (record_length 3) a.x.now)
     (c.same_targets.ensures ∙ ap (λ (rs : List Record). is_same (record_bytes rs) y) rest)

@@ -3,7 +3,6 @@
 use Prim.Native.Nat.{◌-◌}
 use native.Mathlib.Omega.{arith}
 use mathlib.Core.Path.{sym, ◌∙◌}
-use borrow.Author.Tests.{not-true, not-false}
 use Rattle.readback.proofs.PiecesSame.{pieces-first, piece-differs, piece-same, pieces_end}
 use Rattle.readback.proofs.same_full_pieces.Goals as goal
 
@@ -14,14 +13,14 @@ pub returns-then-not-same_piece : goal.returns-then-not-same_piece
 returns-then-not-same_piece c =
     let l = c.loop-i in
     let a = c.args in
-    piece-differs a.b.now a.x.now a.count l.i c.loop-i-test.true c.requires.1 c.same_piece.ensures (not-true _ c.if-not-same_piece.true-raw) ∙ l.invariant.1
+    piece-differs a.b.now a.x.now a.count l.i c.loop-i-test.true c.requires.1 c.same_piece.ensures c.if-not-same_piece.true ∙ l.invariant.1
 
 pub loop-i-preserved : goal.loop-i-preserved
 loop-i-preserved c =
     let l = c.loop-i in
     let a = c.args in (
       omega (arith, c.loop-i-test.true),
-      piece-same a.b.now a.x.now a.count l.i c.loop-i-test.true c.requires.1 c.same_piece.ensures (not-false _ c.if-not-same_piece.false-raw) ∙ l.invariant.1,
+      piece-same a.b.now a.x.now a.count l.i c.loop-i-test.true c.requires.1 c.same_piece.ensures c.if-not-same_piece.false ∙ l.invariant.1,
     )
 
 pub returns : goal.returns

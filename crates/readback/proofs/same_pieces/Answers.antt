@@ -2,7 +2,6 @@
 -- Assumes nothing.
 use native.Mathlib.Omega.{arith}
 use borrow.Author.Rules.{rules}
-use borrow.Author.Tests.{not-true, not-false}
 use Rattle.format.specs.Sheet.{piece_count}
 use Rattle.readback.proofs.PiecesSame.{full-within, left-short, full-differ, full-same}
 use Rattle.readback.proofs.same_pieces.Goals as goal
@@ -13,7 +12,7 @@ same_full_pieces-requires c =
 
 pub returns-then-not-same_full_pieces : goal.returns-then-not-same_full_pieces
 returns-then-not-same_full_pieces c =
-    full-differ c.args.b.now c.args.x.now c.requires.0 c.same_full_pieces.ensures (not-true _ c.if-not-same_full_pieces.true-raw)
+    full-differ c.args.b.now c.args.x.now c.requires.0 c.same_full_pieces.ensures c.if-not-same_full_pieces.true
 
 pub piece_records-requires : goal.piece_records-requires
 unfolding piece_count
@@ -34,4 +33,4 @@ is_front-requires c =
 pub returns : goal.returns
 returns c =
     full-same c.args.b.now c.args.x.now c.requires.0 c.same_full_pieces.ensures c.args.window.now _
-    (not-false _ c.if-not-same_full_pieces.false) c.piece_records.ensures (omega (arith, c.requires.1)) c.is_front.ensures
+    c.if-not-same_full_pieces.false c.piece_records.ensures (omega (arith, c.requires.1)) c.is_front.ensures

@@ -4,7 +4,6 @@ use Prim.Native.Nat.{ℕ, ◌+◌, ◌-◌, ◌≤◌}
 use native.Mathlib.Omega.{arith}
 use mathlib.Core.Path.{◌≡◌, refl, sym, ap, ap₂, ◌∙◌}
 use mathlib.Core.List.{List}
-use borrow.Author.Tests.{not-true, not-false}
 use lib.ListN.{length, drop, drop_of_length-le}
 use Rattle.octets.proofs.Parts.{length_part}
 use Rattle.format.specs.declared.Reading.{Reading}
@@ -14,13 +13,6 @@ use Rattle.segments.proofs.Turning.{Left, bytes_left, all_left, headed, Turn, tu
 use Rattle.readback.proofs.Fronts.{part-differs, part_same}
 use Rattle.readback.proofs.same_records.Goals as goal
 use Rattle.readback.proofs.same_records.Goals.{After-records_length, After-size_at-size}
-
--- what is left takes the rest of x, and decides as the whole does
-pub record Compared (r : Reading) (l x window₀ window : List ℕ) (at from : ℕ) : Type 0 where
-  pub left : Left r l at
-  pub same : length window ≡ length window₀
-  pub whole : from + length (bytes_left left) ≡ length x
-  pub rest : is_same (bytes_left left) (drop from x) ≡ is_same (all_bytes r l) x
 
 -- the segment of a turn
 here : (c : After-size_at-size) → let a = c.args in
@@ -54,20 +46,11 @@ records_length-requires c = (here (goal.at.records_length-requires c).After-size
 
 -- its records, where their length is known, and so far x reaches
 module _ (c : After-records_length) where
-  abbrev size : After-size_at-size
-  size = c
-
-  abbrev place : At-loop-at
-  place = size.before.before.before
-
-  abbrev start : Start
-  start = place.before.before.before.before
-
   abbrev first : List ℕ
-  first = bytes_at start.args.r start.args.l.now place.loop.at size.size-at.result
+  first = bytes_at c.args.r c.args.l.now c.loop-at.at c.size_at-size.result
 
-  within : place.loop.from + c.records_length.result ≤ length start.args.x.now
-  within = omega (arith, c.records_length.ensures, (here size).lengths-are, place.loop.inv.whole)
+  within : c.loop-at.from + c.records_length.result ≤ length c.args.x.now
+  within = omega (arith, c.records_length.ensures, (here (goal.at.After-records_length c).After-size_at-size).lengths-are, c.loop-at.invariant.whole)
 
 pub overflow_add-to : goal.overflow_add-to
 overflow_add-to c = omega (arith, within (goal.at.overflow_add-to c).After-records_length)
@@ -77,37 +60,37 @@ slice_bounds-same_segment-end c = within (goal.at.slice_bounds-same_segment-end 
 
 pub same_segment-requires : goal.same_segment-requires
 same_segment-requires c =
-    let l = (place (goal.at.same_segment-requires c).After-records_length).loop in
-    let x = (start (goal.at.same_segment-requires c).After-records_length).args.x.now in
-    ((here (size (goal.at.same_segment-requires c).After-records_length)).checked, sym (length_part x l.from _ (within (goal.at.same_segment-requires c).After-records_length) ∙ c.records_length.ensures), omega (arith, l.inv.same, (start (goal.at.same_segment-requires c).After-records_length).requires.2))
+    let l = c.loop-at in
+    let x = c.args.x.now in
+    ((here (goal.at.same_segment-requires c).After-size_at-size).checked, sym (length_part x l.from _ (within (goal.at.same_segment-requires c).After-records_length) ∙ c.records_length.ensures), omega (arith, l.invariant.same, c.requires.2))
 
 pub returns-then-not-same_segment : goal.returns-then-not-same_segment
 returns-then-not-same_segment c =
-    let l = (place (goal.at.returns-then-not-same_segment c).After-records_length).loop in
-    let x = (start (goal.at.returns-then-not-same_segment c).After-records_length).args.x.now in
-    part-differs (first (goal.at.returns-then-not-same_segment c).After-records_length) (bytes_left (here (size (goal.at.returns-then-not-same_segment c).After-records_length)).next) x l.from _ (sym c.records_length.ensures) (within (goal.at.returns-then-not-same_segment c).After-records_length) c.same_segment.ensures (not-true _ c.if-not-same_segment.true-raw)
-    ∙ sym (ap (λ (y : List ℕ). is_same y (drop l.from x)) (here (size (goal.at.returns-then-not-same_segment c).After-records_length)).bytes-are)
-    ∙ l.inv.rest
+    let l = c.loop-at in
+    let x = c.args.x.now in
+    part-differs (first (goal.at.returns-then-not-same_segment c).After-records_length) (bytes_left (here (goal.at.returns-then-not-same_segment c).After-size_at-size).next) x l.from _ (sym c.records_length.ensures) (within (goal.at.returns-then-not-same_segment c).After-records_length) c.same_segment.ensures c.if-not-same_segment.true
+    ∙ sym (ap (λ (y : List ℕ). is_same y (drop l.from x)) (here (goal.at.returns-then-not-same_segment c).After-size_at-size).bytes-are)
+    ∙ l.invariant.rest
 
 pub overflow_add-at : goal.overflow_add-at
-overflow_add-at c = omega (arith, (here (size (goal.at.overflow_add-at c).After-records_length)).within, (start (goal.at.overflow_add-at c).After-records_length).well-formed)
+overflow_add-at c = omega (arith, (here (goal.at.overflow_add-at c).After-size_at-size).within, c.well_formed)
 
 pub loop-at-smaller : goal.loop-at-smaller
-loop-at-smaller c = let t = here (size (goal.at.loop-at-smaller c).After-records_length) in omega (arith, t.header, t.within)
+loop-at-smaller c = let t = here (goal.at.loop-at-smaller c).After-size_at-size in omega (arith, t.header, t.within)
 
 pub loop-at-preserved : goal.loop-at-preserved
 loop-at-preserved c =
-    let l = (place (goal.at.loop-at-preserved c).After-records_length).loop in
-    let x = (start (goal.at.loop-at-preserved c).After-records_length).args.x.now in
-    let t = here (size (goal.at.loop-at-preserved c).After-records_length) in
+    let l = c.loop-at in
+    let x = c.args.x.now in
+    let t = here (goal.at.loop-at-preserved c).After-size_at-size in
     record {
       left = t.next;
-      same = omega (arith, c.same_segment.auto, l.inv.same);
-      whole = omega (arith, c.records_length.ensures, t.lengths-are, l.inv.whole);
+      same = omega (arith, c.same_segment.auto, l.invariant.same);
+      whole = omega (arith, c.records_length.ensures, t.lengths-are, l.invariant.whole);
       rest =
-          part_same (first (goal.at.loop-at-preserved c).After-records_length) (bytes_left t.next) x l.from _ (sym c.records_length.ensures) (within (goal.at.loop-at-preserved c).After-records_length) c.same_segment.ensures (not-false _ c.if-not-same_segment.false-raw)
+          part_same (first (goal.at.loop-at-preserved c).After-records_length) (bytes_left t.next) x l.from _ (sym c.records_length.ensures) (within (goal.at.loop-at-preserved c).After-records_length) c.same_segment.ensures c.if-not-same_segment.false
           ∙ sym (ap (λ (y : List ℕ). is_same y (drop l.from x)) t.bytes-are)
-          ∙ l.inv.rest;
+          ∙ l.invariant.rest;
     }
 
 pub shape_of-window : goal.shape_of-window

@@ -5,7 +5,6 @@ use native.Mathlib.Nat.{zero-mul}
 use native.Mathlib.Omega.{arith}
 use mathlib.Core.Path.{◌≡◌, refl, sym, ap, ap₂, ◌∙◌}
 use mathlib.Core.List.{List, ◌++◌}
-use borrow.Author.Tests.{not-true, not-false}
 use lib.ListN.{length, drop, length-take, length-drop}
 use Rattle.octets.proofs.Parts.{tail-is}
 use Rattle.hrr.specs.declared.Scatterers.{Scatterers}
@@ -29,21 +28,17 @@ joined s = scatterers-joined (widths_of s.args.s) s.args.each s.requires.1
 long : (p : Scatterers) (k : ℕ) (t : List ℕ) → length (record_bytes (records p k t)) ≡ k * record_length 12
 long p = length-scatterers (widths_of p)
 
--- the function's start, from a batch
-abbrev start : After-least-k → Start
-start c = c.before.before.before.before.before.before.before.before
-
 -- a batch: its targets are some of those left, and the window has room for them
-few : (c : After-least-k) → let d = c.loop-done.done in let k = c.least-k.result in (d + k ≤ (start c).args.s.count) × (0 < k) × (k * record_length 12 ≤ window_length)
+few : (c : After-least-k) → let d = c.loop-done.done in let k = c.least-k.result in (d + k ≤ c.args.s.count) × (0 < k) × (k * record_length 12 ≤ window_length)
 few c = let t = c.loop-done-test.true in (omega (arith, c.least-k.ensures, t), omega (arith, c.least-k.ensures, t), omega (arith, c.least-k.ensures))
 
 -- they lie within, and so do their records
-within : (c : After-least-k) → let d = c.loop-done.done in let k = c.least-k.result in let a = (start c).args in
+within : (c : After-least-k) → let d = c.loop-done.done in let k = c.least-k.result in let a = c.args in
     (d * a.each + k * a.each ≤ length a.t.now) × (d * record_length 12 + k * record_length 12 ≤ length a.x.now)
 within c =
-    let s = start c in
+    let s = (goal.at.After-least-k c).Start in
     let p = s.args.s in
-    (batch-within (records p) s.args.each (record_length 12) (joined s) (long p) s.args.t.now p.count _ _ (few c).0 s.args.each s.pre.2, omega (arith, (few c).0, s.pre.3))
+    (batch-within (records p) s.args.each (record_length 12) (joined s) (long p) s.args.t.now p.count _ _ (few c).0 s.args.each s.requires.2, omega (arith, (few c).0, s.requires.3))
 
 pub loop-done-init : goal.loop-done-init
 loop-done-init c =
@@ -80,13 +75,13 @@ slice_bounds-scatterer_records-end c = omega (arith, (within (goal.at.slice_boun
 pub scatterer_records-requires : goal.scatterer_records-requires
 scatterer_records-requires c =
     let l = c.loop-done in
-    let s = start (goal.at.scatterer_records-requires c).After-least-k in
+    let s = (goal.at.scatterer_records-requires c).Start in
     let t = s.args.t.now in
     let k = c.least-k.result in
-    let takes = ap (λ (n : ℕ). k * n) s.pre.1 in (
-      s.pre.0,
+    let takes = ap (λ (n : ℕ). k * n) s.requires.1 in (
+      s.requires.0,
       rw (tail-is (l.done * s.args.each) t, length-drop) (omega (arith, (within (goal.at.scatterer_records-requires c).After-least-k).0, takes)),
-      omega (arith, (few (goal.at.scatterer_records-requires c).After-least-k).2, l.invariant.1, s.pre.4),
+      omega (arith, (few (goal.at.scatterer_records-requires c).After-least-k).2, l.invariant.1, s.requires.4),
     )
 
 pub slice_bounds-is_front-end : goal.slice_bounds-is_front-end
@@ -94,14 +89,14 @@ slice_bounds-is_front-end c = omega (arith, (within (goal.at.slice_bounds-is_fro
 
 pub is_front-requires : goal.is_front-requires
 is_front-requires c =
-    simp length-take (omega (arith, (few (goal.at.is_front-requires c).After-least-k).2, c.loop-done.invariant.1, (start (goal.at.is_front-requires c).After-least-k).requires.4, c.scatterer_records.auto))
+    simp length-take (omega (arith, (few (goal.at.is_front-requires c).After-least-k).2, c.loop-done.invariant.1, c.requires.4, c.scatterer_records.auto))
 
 pub returns-then-not-is_front : goal.returns-then-not-is_front
 returns-then-not-is_front c =
     let l = c.loop-done in
-    let s = start (goal.at.returns-then-not-is_front c).After-least-k in
+    let s = (goal.at.returns-then-not-is_front c).Start in
     let p = s.args.s in
-    batch-differs (records p) s.args.each (record_length 12) (joined s) (long p) s.args.t.now p.count l.done c.least-k.result (few (goal.at.returns-then-not-is_front c).After-least-k).0 s.args.x.now l.window _ s.pre.3 (omega (arith, (few (goal.at.returns-then-not-is_front c).After-least-k).2, l.invariant.1, s.pre.4)) c.scatterer_records.ensures c.is_front.ensures (not-true _ c.if-not-is_front.true-raw)
+    batch-differs (records p) s.args.each (record_length 12) (joined s) (long p) s.args.t.now p.count l.done c.least-k.result (few (goal.at.returns-then-not-is_front c).After-least-k).0 s.args.x.now l.window _ s.requires.3 (omega (arith, (few (goal.at.returns-then-not-is_front c).After-least-k).2, l.invariant.1, s.requires.4)) c.scatterer_records.ensures c.is_front.ensures c.if-not-is_front.true
     ∙ l.invariant.2
 
 pub overflow_add-done : goal.overflow_add-done
@@ -113,13 +108,13 @@ loop-done-smaller c = let f = few (goal.at.loop-done-smaller c).After-least-k in
 pub loop-done-preserved : goal.loop-done-preserved
 loop-done-preserved c =
     let l = c.loop-done in
-    let s = start (goal.at.loop-done-preserved c).After-least-k in
+    let s = (goal.at.loop-done-preserved c).Start in
     let p = s.args.s in
     let t = s.args.t.now in
     let k = c.least-k.result in (
       (few (goal.at.loop-done-preserved c).After-least-k).0,
       omega (arith, c.scatterer_records.auto, l.invariant.1),
-      batch-same (records p) s.args.each (record_length 12) (joined s) (long p) t p.count l.done k (few (goal.at.loop-done-preserved c).After-least-k).0 s.args.x.now l.window _ s.pre.3 (omega (arith, (few (goal.at.loop-done-preserved c).After-least-k).2, l.invariant.1, s.pre.4)) c.scatterer_records.ensures c.is_front.ensures (not-false _ c.if-not-is_front.false-raw)
+      batch-same (records p) s.args.each (record_length 12) (joined s) (long p) t p.count l.done k (few (goal.at.loop-done-preserved c).After-least-k).0 s.args.x.now l.window _ s.requires.3 (omega (arith, (few (goal.at.loop-done-preserved c).After-least-k).2, l.invariant.1, s.requires.4)) c.scatterer_records.ensures c.is_front.ensures c.if-not-is_front.false
           ∙ l.invariant.2,
     )
 

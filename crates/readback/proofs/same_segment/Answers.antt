@@ -3,6 +3,7 @@
 -- Assumes nothing.
 use Prim.Native.Nat.{ℕ, ◌-◌}
 use native.Mathlib.Omega.{arith}
+use borrow.Author.Rules.{rules}
 use mathlib.Core.Path.{◌≡◌, refl, sym, ap, ◌∙◌}
 use mathlib.Core.Bool.{Bool, false}
 use mathlib.Core.List.{List}
@@ -65,7 +66,7 @@ module _ (s : Start) where
 -- in the last arm the segment is opaque
 opaque : (c : In_default) → bytes_as (goal.at.In_default c).Start c.args.segment_type ≡ record_bytes (opaque_records c.args.segment_type (b (goal.at.In_default c).Start))
 opaque c =
-    longer-is c.args.r (b (goal.at.In_default c).Start) c.args.segment_type (omega (arith, c.requires.1, c.if-x-le-WINDOW.false)) c.in_default.rest.0.0.1 (other-than-hrr c.args.r c.args.segment_type c.in_default.rest.0.1) c.in_default.rest.1
+    longer-is c.args.r (b (goal.at.In_default c).Start) c.args.segment_type (omega (arith, c.requires.1, c.if-x-le-WINDOW.false)) (search rules) (other-than-hrr c.args.r c.args.segment_type (search rules)) (search rules)
 
 pub returns-then-x-le-WINDOW : goal.returns-then-x-le-WINDOW
 returns-then-x-le-WINDOW c =
@@ -75,14 +76,14 @@ pub same_dwell-requires : goal.same_dwell-requires
 unfolding body_rows is_hrr
 same_dwell-requires c =
     let e = c.in-2.is in
-    (rows c 2 e, long c 2 e, c.requires.2)
+    (rows (goal.at.same_dwell-requires c).Start 2 e, long (goal.at.same_dwell-requires c).Start 2 e, c.requires.2)
 
 pub same_hrr-requires : goal.same_hrr-requires
 unfolding body_rows is_hrr
 same_hrr-requires c =
     let e = c.in-3.is in
     let read = sym c.is_hrr_read.ensures ∙ c.if-is_hrr_read.true in
-    (rw read at (rows c 3 e), rw read at (long c 3 e), c.requires.2)
+    (rw read at (rows (goal.at.same_hrr-requires c).Start 3 e), rw read at (long (goal.at.same_hrr-requires c).Start 3 e), c.requires.2)
 
 pub same_opaque-requires : goal.same_opaque-requires
 same_opaque-requires c =
@@ -91,20 +92,21 @@ same_opaque-requires c =
 pub text_record-requires : goal.text_record-requires
 unfolding body_rows is_hrr
 text_record-requires c =
-    (text-length (b (goal.at.text_record-requires c).Start) (rows c 6 c.in-6.is), c.requires.0.short, omega (arith, c.requires.2))
+    (text-length (b (goal.at.text_record-requires c).Start) (rows (goal.at.text_record-requires c).Start 6 c.in-6.is), c.requires.0.short, omega (arith, c.requires.2))
 
 pub slice_bounds-same_with_pieces-count : goal.slice_bounds-same_with_pieces-count
 unfolding body_rows is_hrr
 slice_bounds-same_with_pieces-count c =
-    text-length (b (goal.at.slice_bounds-same_with_pieces-count c).Start) (rows c 6 c.in-6.is)
+    text-length (b (goal.at.slice_bounds-same_with_pieces-count c).Start) (rows (goal.at.slice_bounds-same_with_pieces-count c).Start 6 c.in-6.is)
 
 pub slice_bounds-same_with_pieces-start : goal.slice_bounds-same_with_pieces-start
-slice_bounds-same_with_pieces-start c = omega (arith, sub-same-with-pieces c)
+unfolding body_rows is_hrr
+slice_bounds-same_with_pieces-start c = omega (arith, text-length (b (goal.at.slice_bounds-same_with_pieces-start c).Start) (rows (goal.at.slice_bounds-same_with_pieces-start c).Start 6 c.in-6.is))
 
 pub same_with_pieces-requires : goal.same_with_pieces-requires
 same_with_pieces-requires c =
     let kept = c.text_record.auto in
-    (omega (arith, kept, c.requires.2), omega (arith, long c 6 c.in-6.is, ap piece_count (pieces (goal.at.same_with_pieces-requires c).Start)), omega (arith, kept, c.requires.2))
+    (omega (arith, kept, c.requires.2), omega (arith, long (goal.at.same_with_pieces-requires c).Start 6 c.in-6.is, ap piece_count (pieces (goal.at.same_with_pieces-requires c).Start)), omega (arith, kept, c.requires.2))
 
 pub same_opaque-requires-in_default : goal.same_opaque-requires-in_default
 same_opaque-requires-in_default c =
@@ -113,12 +115,12 @@ same_opaque-requires-in_default c =
 pub returns-in-2 : goal.returns-in-2
 unfolding segment_records
 returns-in-2 c =
-    told (goal.at.returns-in-2 c).Start (bytes_as (goal.at.returns-in-2 c).Start 2) (bytes-are c 2 c.in-2.is) c.same_dwell.ensures
+    told (goal.at.returns-in-2 c).Start (bytes_as (goal.at.returns-in-2 c).Start 2) (bytes-are (goal.at.returns-in-2 c).Start 2 c.in-2.is) c.same_dwell.ensures
 
 pub returns-then-is_hrr_read : goal.returns-then-is_hrr_read
 unfolding segment_records
 returns-then-is_hrr_read c =
-    told (goal.at.returns-then-is_hrr_read c).Start _ (rw (sym c.is_hrr_read.ensures ∙ c.if-is_hrr_read.true) at (bytes-are c 3 c.in-3.is)) c.same_hrr.ensures
+    told (goal.at.returns-then-is_hrr_read c).Start _ (rw (sym c.is_hrr_read.ensures ∙ c.if-is_hrr_read.true) at (bytes-are (goal.at.returns-then-is_hrr_read c).Start 3 c.in-3.is)) c.same_hrr.ensures
 
 pub returns-else-is_hrr_read : goal.returns-else-is_hrr_read
 returns-else-is_hrr_read c =
@@ -128,7 +130,7 @@ pub returns-in-6 : goal.returns-in-6
 unfolding segment_records text_records body_length is_hrr
 returns-in-6 c =
     behind-same (record_of 5 _) (pieces_of (take (length (b (goal.at.returns-in-6 c).Start) - 20) (drop 20 (b (goal.at.returns-in-6 c).Start)))) (bytes_as (goal.at.returns-in-6 c).Start c.args.segment_type) (x (goal.at.returns-in-6 c).Start) c.args.window.now _ (record_length 5) c.text_record.ensures (length-one 5 _) (omega (arith, c.requires.2)) c.same_with_pieces.ensures
-    (rw (tail-is 20 (b (goal.at.returns-in-6 c).Start)) (bytes-are c 6 c.in-6.is))
+    (rw (tail-is 20 (b (goal.at.returns-in-6 c).Start)) (bytes-are (goal.at.returns-in-6 c).Start 6 c.in-6.is))
 
 pub returns-in_default : goal.returns-in_default
 returns-in_default c =

@@ -4,7 +4,6 @@ use Prim.Native.Nat.{ℕ, ◌+◌}
 use native.Mathlib.Omega.{arith}
 use mathlib.Core.Path.{◌≡◌, sym, ap, ◌∙◌}
 use mathlib.Core.List.{List, [], ◌∷◌}
-use borrow.Author.Tests.{not-true, not-false}
 use lib.ListN.{length, take}
 use Rattle.octets.proofs.Parts.{tail-is}
 use Rattle.format.specs.Sheet.{body_length, header_record, record_bytes}
@@ -20,38 +19,35 @@ use Rattle.readback.proofs.same_sheet.Goals.{After-header_record, After-reading_
 
 -- what is known of the packet, where its reading is; x is as long as the sheet
 module _ (c : After-reading_of-r) where
-  abbrev start : Start
-  start = c
-
   abbrev packet : List ℕ
-  packet = start.args.packet.now
+  packet = c.args.packet.now
 
   abbrev x : List ℕ
-  x = start.args.x.now
+  x = c.args.x.now
 
   abbrev header : List ℕ
   header = record_bytes (header_record packet ∷ [])
 
-  known : Whole start.args.settings packet c.reading_of-r.result
-  known = whole start.args.settings packet c.reading_of-r.result start.pre.0 c.reading_of-r.ensures
+  known : Whole c.args.settings packet c.reading_of-r.result
+  known = whole c.args.settings packet c.reading_of-r.result c.requires.0 c.reading_of-r.ensures
 
   long : length x ≡ record_length 1 + length (all_bytes c.reading_of-r.result (behind packet))
-  long = sym start.pre.1 ∙ known.sheet-length
+  long = sym c.requires.1 ∙ known.sheet-length
 
 -- the header's record stands in the window
 laid : (c : After-header_record) → take (record_length 1) c.header_record.new.o ≡ header (goal.at.After-header_record c).After-reading_of-r
-laid c = front-is (header (goal.at.After-header_record c).After-reading_of-r) (start (goal.at.After-header_record c).After-reading_of-r).args.window.now _ (record_length 1) c.header_record.ensures (length-header (packet (goal.at.After-header_record c).After-reading_of-r)) (omega (arith, (start (goal.at.After-header_record c).After-reading_of-r).requires.2))
+laid c = front-is (header (goal.at.After-header_record c).After-reading_of-r) c.args.window.now _ (record_length 1) c.header_record.ensures (length-header (packet (goal.at.After-header_record c).After-reading_of-r)) (omega (arith, c.requires.2))
 
 pub header_record-requires : goal.header_record-requires
 unfolding body_length
-header_record-requires c = ((known (goal.at.header_record-requires c).After-reading_of-r).headed, omega (arith, (start (goal.at.header_record-requires c).After-reading_of-r).requires.2))
+header_record-requires c = ((known (goal.at.header_record-requires c).After-reading_of-r).headed, omega (arith, c.requires.2))
 
 pub slice_bounds-is_front-end : goal.slice_bounds-is_front-end
 slice_bounds-is_front-end c = omega (arith, long (goal.at.slice_bounds-is_front-end c).After-reading_of-r)
 
 pub returns-then-not-is_front : goal.returns-then-not-is_front
 returns-then-not-is_front c =
-    head-differs (header (goal.at.returns-then-not-is_front c).After-reading_of-r) _ (x (goal.at.returns-then-not-is_front c).After-reading_of-r) _ (record_length 1) (laid (goal.at.returns-then-not-is_front c).After-header_record) (length-header (packet (goal.at.returns-then-not-is_front c).After-reading_of-r)) (omega (arith, long (goal.at.returns-then-not-is_front c).After-reading_of-r)) c.is_front.ensures (not-true _ c.if-not-is_front.true-raw)
+    head-differs (header (goal.at.returns-then-not-is_front c).After-reading_of-r) _ (x (goal.at.returns-then-not-is_front c).After-reading_of-r) _ (record_length 1) (laid (goal.at.returns-then-not-is_front c).After-header_record) (length-header (packet (goal.at.returns-then-not-is_front c).After-reading_of-r)) (omega (arith, long (goal.at.returns-then-not-is_front c).After-reading_of-r)) c.is_front.ensures c.if-not-is_front.true
     ∙ ap (λ (y : List ℕ). is_same y (x (goal.at.returns-then-not-is_front c).After-reading_of-r)) (sym (known (goal.at.returns-then-not-is_front c).After-reading_of-r).sheet-is)
 
 pub slice_bounds-same_records-count : goal.slice_bounds-same_records-count
@@ -68,9 +64,9 @@ slice_bounds-same_records-start-2 c = omega (arith, long (goal.at.slice_bounds-s
 
 pub same_records-requires : goal.same_records-requires
 same_records-requires c =
-    ((known (goal.at.same_records-requires c).After-reading_of-r).checked, sym (left-length (record_length 1) _ (x (goal.at.same_records-requires c).After-reading_of-r) (long (goal.at.same_records-requires c).After-reading_of-r)), omega (arith, (start (goal.at.same_records-requires c).After-reading_of-r).requires.2, c.header_record.auto))
+    ((known (goal.at.same_records-requires c).After-reading_of-r).checked, sym (left-length (record_length 1) _ (x (goal.at.same_records-requires c).After-reading_of-r) (long (goal.at.same_records-requires c).After-reading_of-r)), omega (arith, c.requires.2, c.header_record.auto))
 
 pub returns : goal.returns
 returns c =
-    head-same (header (goal.at.returns c).After-reading_of-r) _ (x (goal.at.returns c).After-reading_of-r) _ (record_length 1) (laid (goal.at.returns c).After-header_record) (length-header (packet (goal.at.returns c).After-reading_of-r)) (omega (arith, long (goal.at.returns c).After-reading_of-r)) c.is_front.ensures _ (not-false _ c.if-not-is_front.false-raw) (tail-is (record_length 1) (x (goal.at.returns c).After-reading_of-r)) c.same_records.ensures
+    head-same (header (goal.at.returns c).After-reading_of-r) _ (x (goal.at.returns c).After-reading_of-r) _ (record_length 1) (laid (goal.at.returns c).After-header_record) (length-header (packet (goal.at.returns c).After-reading_of-r)) (omega (arith, long (goal.at.returns c).After-reading_of-r)) c.is_front.ensures _ c.if-not-is_front.false (tail-is (record_length 1) (x (goal.at.returns c).After-reading_of-r)) c.same_records.ensures
     ∙ ap (λ (y : List ℕ). is_same y (x (goal.at.returns c).After-reading_of-r)) (sym (known (goal.at.returns c).After-reading_of-r).sheet-is)

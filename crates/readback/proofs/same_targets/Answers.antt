@@ -5,7 +5,6 @@ use native.Mathlib.Nat.{zero-mul}
 use native.Mathlib.Omega.{arith}
 use mathlib.Core.Path.{◌≡◌, refl, sym, ap, ap₂, ◌∙◌}
 use mathlib.Core.List.{List, ◌++◌}
-use borrow.Author.Tests.{not-true, not-false}
 use lib.ListN.{length, drop, length-take, length-drop}
 use Rattle.octets.proofs.Parts.{tail-is}
 use Rattle.format.specs.Sheet.{Record, target_records, record_bytes}
@@ -29,21 +28,17 @@ joined s = targets-joined s.args.p.mask s.args.p.each s.args.p.area s.requires.0
 long : (p : Plan) (k : ℕ) (t : List ℕ) → length (record_bytes (records p k t)) ≡ k * record_length 4
 long p = length-targets p.mask p.area
 
--- the function's start, from a batch
-abbrev start : After-least-k → Start
-start c = c.before.before.before.before.before.before.before.before
-
 -- a batch: its targets are some of those left, and the window has room for them
-few : (c : After-least-k) → let d = c.loop-done.done in let k = c.least-k.result in (d + k ≤ (start c).args.p.count) × (0 < k) × (k * record_length 4 ≤ window_length)
+few : (c : After-least-k) → let d = c.loop-done.done in let k = c.least-k.result in (d + k ≤ c.args.p.count) × (0 < k) × (k * record_length 4 ≤ window_length)
 few c = let t = c.loop-done-test.true in (omega (arith, c.least-k.ensures, t), omega (arith, c.least-k.ensures, t), omega (arith, c.least-k.ensures))
 
 -- they lie within, and so do their records
-within : (c : After-least-k) → let d = c.loop-done.done in let k = c.least-k.result in let a = (start c).args in
+within : (c : After-least-k) → let d = c.loop-done.done in let k = c.least-k.result in let a = c.args in
     (d * a.p.each + k * a.p.each ≤ length a.t.now) × (d * record_length 4 + k * record_length 4 ≤ length a.x.now)
 within c =
-    let s = start c in
+    let s = (goal.at.After-least-k c).Start in
     let p = s.args.p in
-    (batch-within (records p) p.each (record_length 4) (joined s) (long p) s.args.t.now p.count _ _ (few c).0 p.each s.pre.0.1, omega (arith, (few c).0, s.pre.1))
+    (batch-within (records p) p.each (record_length 4) (joined s) (long p) s.args.t.now p.count _ _ (few c).0 p.each s.requires.0.1, omega (arith, (few c).0, s.requires.1))
 
 pub loop-done-init : goal.loop-done-init
 loop-done-init c =
@@ -81,13 +76,13 @@ slice_bounds-target_records-end c = omega (arith, (within (goal.at.slice_bounds-
 pub target_records-requires : goal.target_records-requires
 target_records-requires c =
     let l = c.loop-done in
-    let s = start (goal.at.target_records-requires c).After-least-k in
+    let s = (goal.at.target_records-requires c).Start in
     let p = s.args.p in
     let t = s.args.t.now in
     let k = c.least-k.result in
-    let rows = batch-rows p.mask p.each p.area t p.count l.done k s.pre.0.0 (few (goal.at.target_records-requires c).After-least-k).0 l.invariant.2 in (
-      (s.pre.0.0, rw (tail-is (l.done * p.each) t, length-drop) (omega (arith, (within (goal.at.target_records-requires c).After-least-k).0)), s.pre.0.2),
-      omega (arith, (few (goal.at.target_records-requires c).After-least-k).2, l.invariant.1, s.pre.3),
+    let rows = batch-rows p.mask p.each p.area t p.count l.done k s.requires.0.0 (few (goal.at.target_records-requires c).After-least-k).0 l.invariant.2 in (
+      (s.requires.0.0, rw (tail-is (l.done * p.each) t, length-drop) (omega (arith, (within (goal.at.target_records-requires c).After-least-k).0)), s.requires.0.2),
+      omega (arith, (few (goal.at.target_records-requires c).After-least-k).2, l.invariant.1, s.requires.3),
       ap (λ (y : List ℕ). first_row (targets_rows p.mask p.area k y)) (tail-is (l.done * p.each) t) ∙ rows.0,
     )
 
@@ -96,14 +91,14 @@ slice_bounds-is_front-end c = omega (arith, (within (goal.at.slice_bounds-is_fro
 
 pub is_front-requires : goal.is_front-requires
 is_front-requires c =
-    simp length-take (omega (arith, (few (goal.at.is_front-requires c).After-least-k).2, c.loop-done.invariant.1, (start (goal.at.is_front-requires c).After-least-k).requires.3, c.target_records.auto))
+    simp length-take (omega (arith, (few (goal.at.is_front-requires c).After-least-k).2, c.loop-done.invariant.1, c.requires.3, c.target_records.auto))
 
 pub returns-then-not-is_front : goal.returns-then-not-is_front
 returns-then-not-is_front c =
     let l = c.loop-done in
-    let s = start (goal.at.returns-then-not-is_front c).After-least-k in
+    let s = (goal.at.returns-then-not-is_front c).Start in
     let p = s.args.p in
-    batch-differs (records p) p.each (record_length 4) (joined s) (long p) s.args.t.now p.count l.done c.least-k.result (few (goal.at.returns-then-not-is_front c).After-least-k).0 s.args.x.now l.window _ s.pre.1 (omega (arith, (few (goal.at.returns-then-not-is_front c).After-least-k).2, l.invariant.1, s.pre.3)) c.target_records.ensures c.is_front.ensures (not-true _ c.if-not-is_front.true-raw)
+    batch-differs (records p) p.each (record_length 4) (joined s) (long p) s.args.t.now p.count l.done c.least-k.result (few (goal.at.returns-then-not-is_front c).After-least-k).0 s.args.x.now l.window _ s.requires.1 (omega (arith, (few (goal.at.returns-then-not-is_front c).After-least-k).2, l.invariant.1, s.requires.3)) c.target_records.ensures c.is_front.ensures c.if-not-is_front.true
     ∙ l.invariant.3
 
 pub overflow_add-done : goal.overflow_add-done
@@ -115,14 +110,14 @@ loop-done-smaller c = let f = few (goal.at.loop-done-smaller c).After-least-k in
 pub loop-done-preserved : goal.loop-done-preserved
 loop-done-preserved c =
     let l = c.loop-done in
-    let s = start (goal.at.loop-done-preserved c).After-least-k in
+    let s = (goal.at.loop-done-preserved c).Start in
     let p = s.args.p in
     let t = s.args.t.now in
     let k = c.least-k.result in (
       (few (goal.at.loop-done-preserved c).After-least-k).0,
       omega (arith, c.target_records.auto, l.invariant.1),
-      (batch-rows p.mask p.each p.area t p.count l.done k s.pre.0.0 (few (goal.at.loop-done-preserved c).After-least-k).0 l.invariant.2).1,
-      batch-same (records p) p.each (record_length 4) (joined s) (long p) t p.count l.done k (few (goal.at.loop-done-preserved c).After-least-k).0 s.args.x.now l.window _ s.pre.1 (omega (arith, (few (goal.at.loop-done-preserved c).After-least-k).2, l.invariant.1, s.pre.3)) c.target_records.ensures c.is_front.ensures (not-false _ c.if-not-is_front.false-raw)
+      (batch-rows p.mask p.each p.area t p.count l.done k s.requires.0.0 (few (goal.at.loop-done-preserved c).After-least-k).0 l.invariant.2).1,
+      batch-same (records p) p.each (record_length 4) (joined s) (long p) t p.count l.done k (few (goal.at.loop-done-preserved c).After-least-k).0 s.args.x.now l.window _ s.requires.1 (omega (arith, (few (goal.at.loop-done-preserved c).After-least-k).2, l.invariant.1, s.requires.3)) c.target_records.ensures c.is_front.ensures c.if-not-is_front.false
           ∙ l.invariant.3,
     )
 
