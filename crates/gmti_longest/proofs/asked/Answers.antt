@@ -2,12 +2,11 @@
 -- Assumes nothing.
 use native.Mathlib.Omega.{arith}
 use mathlib.Core.Path.{sym, ◌∙◌}
-use borrow.Author.Tests.{eq-eqb, ne_eqb}
+use borrow.Author.Tests.{ne_eqb}
 use lib.ListN.{take}
 use lib.Seq.{length-take-le}
 use Rattle.gmti_longest.proofs.Inputs.{number-long, asked-no-number, asked-zero, asked_is, asked-over}
 use Rattle.gmti_longest.proofs.asked.Goals as goal
-use Rattle.gmti_longest.proofs.asked.Goals.{then-not-is_number-via-then-not-is_number, then-not-is_number-via-else-not-is_number+then-word-eq48}
 
 pub slice_bounds-word-end : goal.slice_bounds-word-end
 slice_bounds-word-end c = sym (length-take-le c.line_length-n.result c.args.input.now c.line_length-n.ensures.1)
@@ -22,10 +21,7 @@ pub returns-then-not-is_number : goal.returns-then-not-is_number
 returns-then-not-is_number c =
     let input = c.args.input.now in
     let word = c.line_length-n.ensures.0 in (
-      elim c.then-not-is_number.branch [
-        | then-not-is_number-via-then-not-is_number w ↦ asked-no-number input word (sym c.is_number.ensures ∙ w.if-not-is_number.true)
-        | then-not-is_number-via-else-not-is_number+then-word-eq48 w ↦ asked-zero input word (eq-eqb _ 48 w.if-word-eq48.true)
-      ],
+      grind (arith, asked-no-number input word, asked-zero input word),
       omega arith,
     )
 
@@ -33,13 +29,13 @@ pub returns-then-k-le-MOST : goal.returns-then-k-le-MOST
 returns-then-k-le-MOST c =
     let input = c.args.input.now in (
       c.number-k.ensures
-          ∙ asked_is input c.line_length-n.ensures.0 (sym c.is_number.ensures ∙ c.if-not-is_number.false) (ne_eqb _ 48 c.if-word-eq48.false) (omega (arith, c.number-k.ensures)),
+          ∙ asked_is input c.line_length-n.ensures.0 (sym c.is_number.ensures ∙ c.if-not-is_number.false) (ne_eqb _ 48 (λ e. omega (arith, e))) (omega (arith, c.number-k.ensures)),
       omega arith,
     )
 
 pub returns-else-k-le-MOST : goal.returns-else-k-le-MOST
 returns-else-k-le-MOST c =
     let input = c.args.input.now in (
-      asked-over input c.line_length-n.ensures.0 (sym c.is_number.ensures ∙ c.if-not-is_number.false) (ne_eqb _ 48 c.if-word-eq48.false) (omega (arith, c.number-k.ensures)),
+      asked-over input c.line_length-n.ensures.0 (sym c.is_number.ensures ∙ c.if-not-is_number.false) (ne_eqb _ 48 (λ e. omega (arith, e))) (omega (arith, c.number-k.ensures)),
       omega arith,
     )
