@@ -12,6 +12,8 @@ ghost use Rattle.printing.specs.InnerPut.{Put};
 ghost use Rattle.gmti_modes.specs.InnerNames.{all_names};
 ghost use Rattle.gmti_modes.specs.Line.{ascii, is_mode, system_text, new_text, mode_text, answer_of};
 
+use std::io;
+
 fn wide(x: u8) -> usize
     ensures { (result ≡ x) × (result < 256) }
 {
@@ -107,23 +109,23 @@ fn answer(line: &[u8], o: &mut [u8]) -> usize
     q + 1
 }
 
-fn write(s: &[u8]) -> bool {
-    streams::write_all(b"gmti_modes: standard output is cut", s)
+fn write(rt: &(impl Print + Eprint), s: &[u8]) -> bool {
+    streams::write_all(rt, b"gmti_modes: standard output is cut", s)
 }
 
 // Answers what comes next, and whether to go on.
-fn write_next(next: lines::Next, input: &[u8], out: &mut [u8]) -> bool
+fn write_next(rt: &(impl Print + Eprint), next: lines::Next, input: &[u8], out: &mut [u8]) -> bool
     requires next_within { NextWithin (length input.now) next }
     requires input_in_bounds { length input.now + 104 ≤ length out.old }
 {
     match next {
         lines::Next::Line(from, to) => {
             let n = answer(&input[from..to], out);
-            write(printing::front(out, n))
+            write(rt, printing::front(out, n))
         }
         lines::Next::Long => {
             let n = vectors::put_unread(out, input, vectors::Fault::Length);
-            write(printing::front(out, n))
+            write(rt, printing::front(out, n))
         }
         lines::Next::End => false,
         lines::Next::Failed => false,
@@ -135,22 +137,20 @@ const INPUT: usize = 4096;
 
 const OUT: usize = INPUT + 104;
 
-// As in `streams`, the turns are counted down so that the loop is seen to end.
-fn run(input: &mut [u8; INPUT], out: &mut [u8; OUT]) {
+// As in `streams`, the loop has more turns than any run uses up.
+fn run(rt: &(impl io::Input + Print + Eprint), input: &mut [u8; INPUT], out: &mut [u8; OUT]) {
     let mut held = lines::Held::nothing();
-    let mut goes_on = true;
-    let mut turns = u64::MAX;
-    while turns > 0 && goes_on {
-        let step = lines::next_line(b"gmti_modes: standard input", input, held);
-        let next = step.next;
-        goes_on = write_next(next, input, out);
+    for _ in 0..u64::MAX {
+        let step = lines::next_line(rt, b"gmti_modes: standard input", input, held);
+        if !write_next(rt, step.next, input, out) {
+            return;
+        }
         held = step.held;
-        turns -= 1;
     }
 }
 
-fn main() {
+fn main(rt: HostRuntime) {
     let mut input = [0u8; INPUT];
     let mut out = [0u8; OUT];
-    run(&mut input, &mut out);
+    run(&rt, &mut input, &mut out);
 }

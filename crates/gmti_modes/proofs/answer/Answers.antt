@@ -3,7 +3,6 @@
 use native.Mathlib.Omega.{arith}
 use Prim.Native.Nat.{ℕ}
 use mathlib.Core.Path.{◌≡◌, sym, ◌∙◌}
-use borrow.Author.Tests.{not-true, not-false}
 use lib.ListN.{length, set, length-set}
 use Rattle.vectors.proofs.Spellings.{label-laid}
 use Rattle.gmti_modes.proofs.Said.{mode-most, mode-answer, unread-answer, said-laid}
@@ -13,24 +12,24 @@ use Rattle.gmti_modes.proofs.answer.Goals.{After-put_mode-q}
 pub returns-then-not-is_mode : goal.returns-then-not-is_mode
 returns-then-not-is_mode c =
     let line = c.args.line.now in
-    rw (unread-answer line (sym c.is_mode.ensures ∙ not-true _ c.if-not-is_mode.true-raw)) c.put_unread.ensures
+    rw (unread-answer line (sym c.is_mode.ensures ∙ c.if-not-is_mode.true)) c.put_unread.ensures
 
 -- the line is a mode's number, and this is the mode
 pub overflow_cast-mode : goal.overflow_cast-mode
 overflow_cast-mode c =
     let line = c.args.line.now in
-    record { fits = omega (arith, c.number-mode.ensures, mode-most line (sym c.is_mode.ensures ∙ not-false _ c.if-not-is_mode.false-raw)) }
+    record { fits = omega (arith, c.number-mode.ensures, mode-most line (sym c.is_mode.ensures ∙ c.if-not-is_mode.false)) }
 
 -- the buffer keeps its length
-kept : (c : After-put_mode-q) → length (set c.put_mode-q.new.0 c.put_mode-q.result 10) ≡ length c.args.o.now
-kept c = length-set {A = ℕ} c.put_mode-q.new.0 c.put_mode-q.result 10 ∙ c.put_mode-q.auto.0 ∙ c.put_name-p.auto.0
-
-pub shape_of-o : goal.shape_of-o
-shape_of-o c = kept (goal.at.shape_of-o c).After-put_mode-q
+kept : (c : After-put_mode-q) → length (set c.put_mode-q.new.o c.put_mode-q.result 10) ≡ length c.args.o.now
+kept c = length-set {A = ℕ} c.put_mode-q.new.o c.put_mode-q.result 10 ∙ c.put_mode-q.auto.o ∙ c.put_name-p.auto.o
 
 pub returns : goal.returns
 returns c =
     let line = c.args.line.now in
-    let laid = said-laid line c.args.o.now (label-laid line c.args.o.now c.put_name-p.ensures.0 c.put_name-p.ensures.1) c.put_mode-q.ensures in
-    let same = mode-answer line (sym c.is_mode.ensures ∙ not-false _ c.if-not-is_mode.false-raw) c.number-mode.ensures in
-    rw same ((laid.0, omega (arith, kept (goal.at.returns c).After-put_mode-q, c.put_mode-q.ensures.room, c.put_name-p.ensures.0, c.requires)), laid.1)
+    let laid = said-laid line c.args.o.now (label-laid line c.args.o.now c.put_name-p.ensures.value c.put_name-p.ensures.o_after) c.put_mode-q.ensures in
+    let same = mode-answer line (sym c.is_mode.ensures ∙ c.if-not-is_mode.false) c.number-mode.ensures in
+    rw same (record {
+      value = (laid.0, omega (arith, kept (goal.at.returns c).After-put_mode-q, c.put_mode-q.ensures.room, c.put_name-p.ensures.value, c.requires));
+      o_after = laid.1;
+    })

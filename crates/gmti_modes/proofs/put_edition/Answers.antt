@@ -9,9 +9,10 @@ use Rattle.gmti_modes.proofs.put_edition.Goals as goal
 
 pub put_system-requires : goal.put_system-requires
 put_system-requires c =
-    (omega (arith, c.system_of-system.ensures, c.mode_system.ensures.1), omega (arith, c.put_word-p.auto, c.put_word-p.ensures, c.requires))
+    (omega (arith, c.system_of-system.ensures, c.mode_system.ensures.1), omega (arith, c.put_word-p.auto.o, c.put_word-p.ensures.value, c.requires))
 
 pub returns : goal.returns
 returns c =
     let found = c.system_of-system.ensures ∙ ap system_of c.mode_system.ensures.0 in
-    put-join (worded {text = c.args.words.now} {most = 12} refl c.requires.0 c.put_word-p.ensures) (under found c.put_system.ensures)
+    let put = c.put_word-p.ensures in
+    put-join (worded {text = c.args.words.now} {most = 12} refl c.requires.0 (put.value, put.o_after)) (under found c.put_system.ensures)
