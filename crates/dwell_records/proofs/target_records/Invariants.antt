@@ -5,7 +5,7 @@ use mathlib.Core.Path.{◌≡◌}
 use lib.ListN.{length, drop}
 use lib.Seq.{sets}
 use Rattle.format.specs.declared.Check.TheVariants.{Passed}
-use Rattle.format.specs.Sheet.{target_record, target_records, record_bytes}
+use Rattle.format.specs.Sheet.{target_records, record_bytes}
 use Rattle.format.specs.Lengths.{record_length}
 use Rattle.format.specs.Rows.{first_row, targets_rows}
 use Rattle.dwell_records.proofs.target_records.Given as goal
