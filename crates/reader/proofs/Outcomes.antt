@@ -24,7 +24,7 @@ use Rattle.format.specs.Sheet.{header_record, record_bytes}
 use Rattle.format.specs.Lengths.{record_length}
 use Rattle.format.specs.Answer.{outcome, left_by}
 use Rattle.format.specs.Rows.{first_row, header_rows}
-use Rattle.format.specs.Reader.{parse, dwells_in, reading_of, parsed, sheet, segments_answer, reading_answer, read}
+use Rattle.format.specs.Reader.{dwells_in, reading_of, parsed, sheet, segments_answer, reading_answer, read}
 use Rattle.format.proofs.Acceptance.{no-refusal, same_length, Acceptable, answer_of, accepted-only, read-when}
 use Rattle.format.proofs.Lengths.{length-header, length-sheet}
 use Rattle.segments.specs.InnerWalk.{answer_from, rest_answer}

@@ -1,15 +1,12 @@
 -- `reader::packet_records` meets its contract. The loop keeps that what is left to lay out, laid out, gives the sheet.
 -- Assumes nothing.
-use Prim.Native.Nat.{ℕ, ◌+◌, ◌-◌, ◌≤◌}
+use Prim.Native.Nat.{◌+◌, ◌≤◌}
 use native.Mathlib.Omega.{arith}
-use mathlib.Core.Path.{◌≡◌, refl, sym, ap, ◌∙◌}
-use mathlib.Core.List.{List}
+use mathlib.Core.Path.{refl, sym, ap, ◌∙◌}
 use lib.ListN.{length, length-drop}
 use lib.Seq.{sets}
 use Rattle.octets.proofs.Parts.{filled_next, filled-length, tail-is}
-use Rattle.format.specs.declared.Reading.{Reading}
-use Rattle.segments.specs.InnerWalk.{all_bytes}
-use Rattle.segments.proofs.Turning.{Left, bytes_left, all_left, headed, Turn, turn, bytes_at, nothing_left}
+use Rattle.segments.proofs.Turning.{bytes_left, all_left, headed, Turn, turn, bytes_at, nothing_left}
 use Rattle.reader.proofs.packet_records.Goals as goal
 use Rattle.reader.proofs.packet_records.Goals.{After-size_at-size}
 
