@@ -1,6 +1,5 @@
 -- `readback::same_full_pieces` meets its contract. The loop keeps that the pieces that are left decide as all of them do.
 -- Assumes nothing.
-use Prim.Native.Nat.{◌-◌}
 use native.Mathlib.Omega.{arith}
 use mathlib.Core.Path.{sym, ◌∙◌}
 use Rattle.readback.proofs.PiecesSame.{pieces-first, piece-differs, piece-same, pieces_end}

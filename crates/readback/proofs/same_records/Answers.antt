@@ -1,15 +1,13 @@
 -- `readback::same_records` meets its contract. The loop keeps that the records of the segments that are left decide as all of them do.
 -- Assumes nothing.
-use Prim.Native.Nat.{ℕ, ◌+◌, ◌-◌, ◌≤◌}
+use Prim.Native.Nat.{ℕ, ◌+◌, ◌≤◌}
 use native.Mathlib.Omega.{arith}
-use mathlib.Core.Path.{◌≡◌, refl, sym, ap, ap₂, ◌∙◌}
+use mathlib.Core.Path.{refl, sym, ap, ap₂, ◌∙◌}
 use mathlib.Core.List.{List}
 use lib.ListN.{length, drop, drop_of_length-le}
 use Rattle.octets.proofs.Parts.{length_part}
-use Rattle.format.specs.declared.Reading.{Reading}
 use Rattle.format.specs.Writer.{is_same}
-use Rattle.segments.specs.InnerWalk.{all_bytes}
-use Rattle.segments.proofs.Turning.{Left, bytes_left, all_left, headed, Turn, turn, bytes_at, nothing_left}
+use Rattle.segments.proofs.Turning.{bytes_left, all_left, headed, Turn, turn, bytes_at, nothing_left}
 use Rattle.readback.proofs.Fronts.{part-differs, part_same}
 use Rattle.readback.proofs.same_records.Goals as goal
 use Rattle.readback.proofs.same_records.Goals.{After-records_length, After-size_at-size}

@@ -1,9 +1,9 @@
 -- `writer::read_back` meets its contract. What the packet's rows answer and what the sheet is decide row 19.
 -- Assumes nothing.
 use mathlib.Core.Path.{sym, ◌∙◌}
-use mathlib.Core.Logic.{⊎_elim}
 use Rattle.writer.proofs.ReadingBack.{reread-refused, comparable, reread-not, reread-other, reread-same}
 use Rattle.writer.proofs.read_back.Goals as goal
+use Rattle.writer.proofs.read_back.Goals.{then-length-x, else-length-x}
 
 pub is_sheet-requires : goal.is_sheet-requires
 is_sheet-requires c =
@@ -22,7 +22,7 @@ pub returns-else-length-x : goal.returns-else-length-x
 returns-else-length-x c =
     let answer = c.in-Accepted.is in
     c.refused-else-length-x.ensures
-    ∙ ⊎_elim
-    (λ w. reread-not c.args.packet.now c.args.x.now c.requires _ c.check.ensures _ _ _ _ answer (sym w.1.ensures ∙ w.2.left))
-    (λ w. reread-other c.args.packet.now c.args.x.now c.requires _ c.check.ensures _ _ _ _ answer w.left)
-    c.else-length-x.branch
+    ∙ elim c.else-length-x.branch [
+        then-length-x w ↦ reread-not c.args.packet.now c.args.x.now c.requires _ c.check.ensures _ _ _ _ answer (sym w.is_sheet.ensures ∙ w.if-is_sheet.false)
+      | else-length-x w ↦ reread-other c.args.packet.now c.args.x.now c.requires _ c.check.ensures _ _ _ _ answer w.if-length-x.false
+    ]

@@ -10,7 +10,7 @@ pub returns-then-room-length : goal.returns-then-room-length
 returns-then-room-length c =
     let a = c.args in
     let w = c.write_where_room-a in
-    ap (λ (r : Answer). outcome r w.new.1.0) c.refused.ensures
+    ap (λ (r : Answer). outcome r w.new.o) c.refused.ensures
     ∙ write-short a.x.now a.o.now _ _ w.ensures _ _ _ _ c.in-Accepted.is c.if-room-length.true
 
 pub returns-in-Refused : goal.returns-in-Refused
@@ -23,5 +23,5 @@ pub returns-else-room-length : goal.returns-else-room-length
 returns-else-room-length c =
     let a = c.args in
     let w = c.write_where_room-a in
-    ap (λ (r : Answer). outcome r w.new.1.0) (sym c.in-Accepted.is)
+    ap (λ (r : Answer). outcome r w.new.o) (sym c.in-Accepted.is)
     ∙ write-laid a.x.now a.o.now _ _ w.ensures _ _ _ _ c.in-Accepted.is c.if-room-length.false

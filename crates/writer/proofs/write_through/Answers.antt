@@ -10,13 +10,13 @@ use Rattle.writer.proofs.write_through.Goals as goal
 use Rattle.writer.proofs.write_through.Goals.{After-slice_known-3-1}
 
 -- the front of the array is what x spells
-spelt_is : (c : After-slice_known-3-1) → take c.args.n c.spell.new.1.0 ≡ spell c.args.x.now
+spelt_is : (c : After-slice_known-3-1) → take c.args.n c.spell.new.o ≡ spell c.args.x.now
 spelt_is c =
     front-back (spell c.args.x.now) c.args.spelt.now _ c.args.n c.requires.0.length_is (omega (arith, c.requires.0.length_is, c.requires.2)) c.spell.ensures
 
 pub slice_bounds-packet-end-2 : goal.slice_bounds-packet-end-2
 slice_bounds-packet-end-2 c =
-    sym (length-take-le c.args.n c.spell.new.1.0 (omega (arith, c.spell.auto, c.requires)))
+    sym (length-take-le c.args.n c.spell.new.o (omega (arith, c.spell.auto, c.requires)))
 
 pub read_back-a-requires : goal.read_back-a-requires
 read_back-a-requires c = spelt_is (goal.at.read_back-a-requires c).After-slice_known-3-1
