@@ -1,6 +1,5 @@
 -- `copies::clear_all` meets its contract. The zeros that are left to store, stored where they belong, clear the whole run.
 -- Assumes nothing.
-use Prim.Native.Nat.{◌-◌}
 use borrow.Author.Rules.{rules}
 use Rattle.copies.proofs.Copied.{cleared-next, cleared-first, cleared-last}
 use Rattle.copies.proofs.clear_all.Goals as goal

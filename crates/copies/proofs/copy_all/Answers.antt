@@ -1,6 +1,5 @@
 -- `copies::copy_all` meets its contract. What is left of s to store, stored where it belongs, gives the whole copy.
 -- Assumes nothing.
-use Prim.Native.Nat.{◌-◌}
 use borrow.Author.Rules.{rules}
 use Rattle.copies.proofs.Copied.{copied_next, copied-first, copied-last}
 use Rattle.copies.proofs.copy_all.Goals as goal

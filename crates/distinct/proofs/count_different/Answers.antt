@@ -4,7 +4,7 @@ use Prim.Native.Nat.{ℕ, ◌+◌, ◌-◌}
 use native.Mathlib.Nat.{le_of_eq, add-zero}
 use native.Mathlib.Omega.{arith}
 use mathlib.Core.Path.{◌≡◌, refl, sym, ap, ◌∙◌}
-use mathlib.Core.Bool.{Bool, true, false, not, cond, true≢false, false≢true}
+use mathlib.Core.Bool.{Bool, true, false, cond, true≢false, false≢true}
 use borrow.Author.Rules.{scaled_Fits}
 use lib.Dec.{eqb}
 use lib.ListN.{length, get_or, drop, length-drop}
@@ -46,8 +46,8 @@ loop-i-preserved c =
     counted-turn s c.loop-i.n c.loop-i.i c.if-not-is_among.n c.is_among.result (omega arith)
     (c.is_among.ensures ∙ ap (is_among eqb (get_or s c.loop-i.i 0)) behind)
     (elim c.if-not-is_among.branch [
-      then-not-is_among w ↦ w.n-is ∙ counts c.loop-i.n c.is_among.result w.if-not-is_among.true
-    | else-not-is_among w ↦ w.n-is ∙ repeats c.loop-i.n c.is_among.result w.if-not-is_among.false
+      | then-not-is_among w ↦ w.n-is ∙ counts c.loop-i.n c.is_among.result w.if-not-is_among.true
+      | else-not-is_among w ↦ w.n-is ∙ repeats c.loop-i.n c.is_among.result w.if-not-is_among.false
     ])
     c.loop-i.invariant
 

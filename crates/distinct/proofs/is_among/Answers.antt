@@ -1,6 +1,5 @@
 -- `distinct::is_among` meets its contract. The loop keeps whether x was seen, and that the rest decides.
 -- Assumes nothing.
-use Prim.Native.Nat.{◌-◌}
 use mathlib.Core.Path.{◌≡◌, refl, sym, ◌∙◌}
 use mathlib.Core.Bool.{◌||◌, or-true, or-false}
 use borrow.Author.Rules.{scaled_Fits}
@@ -24,8 +23,8 @@ seen-is c =
     let x = c.args.x in
     let y = get_or c.args.s.now c.loop-i.i 0 in
     elim c.if-x-s.branch [
-      then-x-s w ↦ rw (eq-eqb x y w.if-x-s.true) (w.seen-is ∙ sym (or-true c.loop-i.seen))
-    | else-x-s w ↦ rw (ne_eqb x y w.if-x-s.false) (w.seen-is ∙ sym (or-false c.loop-i.seen))
+      | then-x-s w ↦ rw (eq-eqb x y w.if-x-s.true) (w.seen-is ∙ sym (or-true c.loop-i.seen))
+      | else-x-s w ↦ rw (ne_eqb x y w.if-x-s.false) (w.seen-is ∙ sym (or-false c.loop-i.seen))
     ]
 
 pub loop-i-preserved : goal.loop-i-preserved

@@ -11,8 +11,8 @@ use Rattle.mask.proofs.is_placed.Goals.{Joined-has, then-has, else-has}
 pair_is : (c : Joined-has) → c.if-has.value ≡ (announced c.args.mask 33 && announced c.args.mask 34)
 pair_is c =
     elim c.if-has.branch [
-      then-has w ↦ rw (sym c.has.ensures ∙ w.if-has.true) (w.value-is ∙ w.has-then-has.ensures)
-    | else-has w ↦ rw (sym c.has.ensures ∙ w.if-has.false) (w.value-is ∙ w.if-has.false)
+      | then-has w ↦ rw (sym c.has.ensures ∙ w.if-has.true) (w.value-is ∙ w.has-then-has.ensures)
+      | else-has w ↦ rw (sym c.has.ensures ∙ w.if-has.false) (w.value-is ∙ w.if-has.false)
     ]
 
 pub returns-then-has-2 : goal.returns-then-has-2

@@ -1,6 +1,6 @@
 -- `text::is_line` meets its contract. The loop keeps the highest rank, and that the rest decides.
 -- Assumes nothing.
-use Rattle.std.proofs.Common.{◌-◌, refl, arith}
+use Rattle.std.proofs.Common.{refl, arith}
 use Rattle.text.specs.Text.{is_line_byte}
 use Rattle.text.proofs.Bytes.{so-far-turn, so-far-end}
 use Rattle.text.proofs.is_line.Goals as goal
