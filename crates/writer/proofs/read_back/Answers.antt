@@ -3,7 +3,7 @@
 use mathlib.Core.Path.{sym, ◌∙◌}
 use Rattle.writer.proofs.ReadingBack.{reread-refused, comparable, reread-not, reread-other, reread-same}
 use Rattle.writer.proofs.read_back.Goals as goal
-use Rattle.writer.proofs.read_back.Goals.{then-length-x, else-length-x}
+use Rattle.writer.proofs.read_back.Goals.{else-length-x-via-then-length-x+else-is_sheet, else-length-x-via-else-length-x}
 
 pub is_sheet-requires : goal.is_sheet-requires
 is_sheet-requires c =
@@ -23,6 +23,6 @@ returns-else-length-x c =
     let answer = c.in-Accepted.is in
     c.refused-else-length-x.ensures
     ∙ elim c.else-length-x.branch [
-        then-length-x w ↦ reread-not c.args.packet.now c.args.x.now c.requires _ c.check.ensures _ _ _ _ answer (sym w.is_sheet.ensures ∙ w.if-is_sheet.false)
-      | else-length-x w ↦ reread-other c.args.packet.now c.args.x.now c.requires _ c.check.ensures _ _ _ _ answer w.if-length-x.false
+      | else-length-x-via-then-length-x+else-is_sheet w ↦ reread-not c.args.packet.now c.args.x.now c.requires _ c.check.ensures _ _ _ _ answer (sym w.is_sheet.ensures ∙ w.if-is_sheet.false)
+      | else-length-x-via-else-length-x w ↦ reread-other c.args.packet.now c.args.x.now c.requires _ c.check.ensures _ _ _ _ answer w.if-length-x.false
     ]
