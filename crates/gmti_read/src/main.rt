@@ -7,6 +7,8 @@ ghost use Rattle.format.specs.Edition.{as_edition};
 ghost use Rattle.format.specs.Reader.{read};
 ghost use Rattle.gmti_read.specs.Printed.{printed_of};
 
+use std::io;
+
 // All that is printed of these bytes, at the front of out; answers its length.
 fn answer(packet: &[u8], sheet: &mut [u8], out: &mut [u8]) -> usize
     requires { 96 + length sheet.old ≤ length out.old }
@@ -18,15 +20,16 @@ fn answer(packet: &[u8], sheet: &mut [u8], out: &mut [u8]) -> usize
 }
 
 // One byte more than the longest packet has tells that the input is longer, and row 2 refuses it.
-fn run(packet: &mut [u8], sheet: &mut [u8], out: &mut [u8])
+fn run(rt: &(impl io::Input + Print + Eprint), packet: &mut [u8], sheet: &mut [u8], out: &mut [u8])
     requires { 96 + length sheet.old ≤ length out.old }
 {
-    let input = streams::read_all(b"gmti_read: standard input", packet);
+    let input = streams::read_all(rt, b"gmti_read: standard input", packet);
     let streams::Input::Read(n) = input else {
         return;
     };
     let k = answer(printing::front(packet, n), sheet, out);
     streams::write_all(
+        rt,
         b"gmti_read: standard output is cut",
         printing::front(out, k),
     );
@@ -36,16 +39,17 @@ fn run(packet: &mut [u8], sheet: &mut [u8], out: &mut [u8])
 const SHEET: usize = 65536;
 
 fn run_in(
+    rt: &(impl io::Input + Print + Eprint),
     packet: &mut [u8; format::LONGEST_PACKET + 1],
     sheet: &mut [u8; SHEET],
     out: &mut [u8; printing::LINE + SHEET],
 ) {
-    run(packet, sheet, out);
+    run(rt, packet, sheet, out);
 }
 
-fn main() {
+fn main(rt: HostRuntime) {
     let mut packet = [0u8; format::LONGEST_PACKET + 1];
     let mut sheet = [0u8; SHEET];
     let mut out = [0u8; printing::LINE + SHEET];
-    run_in(&mut packet, &mut sheet, &mut out);
+    run_in(&rt, &mut packet, &mut sheet, &mut out);
 }

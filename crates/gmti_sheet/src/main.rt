@@ -7,6 +7,7 @@ ghost use Rattle.format.specs.Writer.{is_same};
 
 use format::Answer;
 use std::env::{Env, FillError};
+use std::io;
 
 // The edition that a word names, and 0, which is none, for any other word.
 fn edition_of(word: &[u8]) -> u32
@@ -33,42 +34,48 @@ fn edition_asked(rt: &impl Env) -> u32 {
     }
 }
 
-fn write(s: &[u8]) {
-    streams::write_all(b"gmti_sheet: standard output is cut", s);
+fn write(rt: &(impl Print + Eprint), s: &[u8]) {
+    streams::write_all(rt, b"gmti_sheet: standard output is cut", s);
 }
 
 // One byte more than the longest packet has tells that the input is longer, and row 2 refuses it.
-fn run(packet: &mut [u8], sheet: &mut [u8], line: &mut [u8])
+fn run(
+    rt: &(impl Env + io::Input + Print + Eprint),
+    packet: &mut [u8],
+    sheet: &mut [u8],
+    line: &mut [u8],
+)
     requires { 96 ≤ length line.old }
 {
-    let input = streams::read_all(b"gmti_sheet: standard input", packet);
+    let input = streams::read_all(rt, b"gmti_sheet: standard input", packet);
     let streams::Input::Read(n) = input else {
         return;
     };
-    let edition = edition_asked();
+    let edition = edition_asked(rt);
     let a = reader::read(edition, printing::front(packet, n), sheet);
     match a {
         Answer::Accepted(_, _, _, length) => {
-            write(printing::front(sheet, length));
+            write(rt, printing::front(sheet, length));
         }
         Answer::Refused(..) => {
             let k = printing::answer_line(line, a);
-            write(printing::front(line, k));
+            write(rt, printing::front(line, k));
         }
     }
 }
 
 fn run_in(
+    rt: &(impl Env + io::Input + Print + Eprint),
     packet: &mut [u8; format::LONGEST_PACKET + 1],
     sheet: &mut [u8; format::LONGEST_SHEET],
     line: &mut [u8; printing::LINE],
 ) {
-    run(packet, sheet, line);
+    run(rt, packet, sheet, line);
 }
 
-fn main() {
+fn main(rt: HostRuntime) {
     let mut packet = [0u8; format::LONGEST_PACKET + 1];
     let mut sheet = [0u8; format::LONGEST_SHEET];
     let mut line = [0u8; printing::LINE];
-    run_in(&mut packet, &mut sheet, &mut line);
+    run_in(&rt, &mut packet, &mut sheet, &mut line);
 }

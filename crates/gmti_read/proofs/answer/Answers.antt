@@ -13,7 +13,8 @@ pub returns : goal.returns
 returns c =
     let print = c.print in
     let read = c.read-a in
-    let e = ap printed_of read.ensures in (
-      (print.ensures.0 ∙ ap (λ (l : List ℕ). length l) e, omega (arith, print.ensures.1.1, print.auto.1.1.0, read.auto.1.1.0, c.requires)),
-      print.ensures.1.0 ∙ ap (λ (l : List ℕ). sets c.args.out.now 0 l) e,
-    )
+    let e = ap printed_of read.ensures in
+    record {
+      value = (print.ensures.value ∙ ap (λ (l : List ℕ). length l) e, omega (arith, print.ensures.upper_bound));
+      out_after = print.ensures.o_after ∙ ap (λ (l : List ℕ). sets c.args.out.now 0 l) e;
+    }
