@@ -11,6 +11,7 @@ ghost use Rattle.format.specs.Reader.{read};
 ghost use Rattle.format.specs.Writer.{write};
 
 use format::Answer;
+use std::io;
 
 // What is wrong with a vector; whether it is the writer's, its numbers, and where its packet or sheet begins.
 #[derive(Clone, Copy)]
@@ -128,21 +129,22 @@ fn answer(line: &[u8], packet: &mut [u8], sheet: &mut [u8], out: &mut [u8]) -> u
     vectors::put_line(out, &line[..name], a, &sheet[..lent])
 }
 
-fn write(s: &[u8]) -> bool {
-    streams::write_all(b"gmti_trials: standard output is cut", s)
+fn write(rt: &(impl Print + Eprint), s: &[u8]) -> bool {
+    streams::write_all(rt, b"gmti_trials: standard output is cut", s)
 }
 
 // The line that answers one of which only the front is held.
-fn write_long(front: &[u8], out: &mut [u8]) -> bool
+fn write_long(rt: &(impl Print + Eprint), front: &[u8], out: &mut [u8]) -> bool
     requires { length front.now + 16 ≤ length out.old }
 {
     let name = lines::find(front, 0, b':');
     let n = vectors::put_unread(out, &front[..name], vectors::Fault::Length);
-    write(printing::front(out, n))
+    write(rt, printing::front(out, n))
 }
 
 // Answers what comes next, and whether to go on.
 fn write_next(
+    rt: &(impl Print + Eprint),
     next: lines::Next,
     input: &[u8],
     packet: &mut [u8],
@@ -157,9 +159,9 @@ fn write_next(
     match next {
         lines::Next::Line(from, to) => {
             let n = answer(&input[from..to], packet, sheet, out);
-            write(printing::front(out, n))
+            write(rt, printing::front(out, n))
         }
-        lines::Next::Long => write_long(input, out),
+        lines::Next::Long => write_long(rt, input, out),
         lines::Next::End => false,
         lines::Next::Failed => false,
     }
@@ -175,29 +177,28 @@ const LENT: usize = 8192;
 
 const OUT: usize = INPUT + 2 * LENT + 90;
 
-// As in `streams`, the turns are counted down so that the loop is seen to end.
+// As in `streams`, the loop has more turns than any run uses up.
 fn run(
+    rt: &(impl io::Input + Print + Eprint),
     input: &mut [u8; INPUT],
     packet: &mut [u8; PACKET],
     sheet: &mut [u8; LENT],
     out: &mut [u8; OUT],
 ) {
     let mut held = lines::Held::nothing();
-    let mut goes_on = true;
-    let mut turns = u64::MAX;
-    while turns > 0 && goes_on {
-        let step = lines::next_line(b"gmti_trials: standard input", input, held);
-        let next = step.next;
-        goes_on = write_next(next, input, packet, sheet, out);
+    for _ in 0..u64::MAX {
+        let step = lines::next_line(rt, b"gmti_trials: standard input", input, held);
+        if !write_next(rt, step.next, input, packet, sheet, out) {
+            return;
+        }
         held = step.held;
-        turns -= 1;
     }
 }
 
-fn main() {
+fn main(rt: HostRuntime) {
     let mut input = [0u8; INPUT];
     let mut packet = [0u8; PACKET];
     let mut sheet = [0u8; LENT];
     let mut out = [0u8; OUT];
-    run(&mut input, &mut packet, &mut sheet, &mut out);
+    run(&rt, &mut input, &mut packet, &mut sheet, &mut out);
 }
