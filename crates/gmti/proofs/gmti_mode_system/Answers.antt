@@ -7,4 +7,4 @@ use Rattle.gmti.proofs.gmti_mode_system.Goals as goal
 pub returns : goal.returns
 returns c =
     let found = c.mode_system-l.ensures.0 in
-    (c.number_of_lem.ensures ∙ ap number_of found, c.system_of.ensures ∙ ap system_of found)
+    record { value = c.number_of.ensures ∙ ap number_of found; system_after = c.system_of.ensures ∙ ap system_of found }

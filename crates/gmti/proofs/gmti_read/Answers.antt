@@ -8,4 +8,6 @@ pub put_numbers-requires : goal.put_numbers-requires
 put_numbers-requires c = outcome_fits _ _ _ c.read.ensures (read-numbers-fit _ _ _)
 
 pub returns : goal.returns
-returns c = outcome-parts _ _ _ c.read.ensures _ c.put_numbers.ensures
+returns c =
+    let parts = outcome-parts _ _ _ c.read.ensures _ c.put_numbers.ensures in
+    record { answer_after = parts.0; sheet_after = parts.1 }

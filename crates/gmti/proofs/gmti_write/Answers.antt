@@ -8,4 +8,6 @@ pub put_numbers-requires : goal.put_numbers-requires
 put_numbers-requires c = outcome_fits _ _ _ c.write.ensures (write-numbers-fit _ _)
 
 pub returns : goal.returns
-returns c = outcome-parts _ _ _ c.write.ensures _ c.put_numbers.ensures
+returns c =
+    let parts = outcome-parts _ _ _ c.write.ensures _ c.put_numbers.ensures in
+    record { answer_after = parts.0; packet_after = parts.1 }
