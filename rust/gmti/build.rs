@@ -22,15 +22,16 @@ fn main() {
     println!("cargo:folder={}", folder.display());
 }
 
-/// The folder where `rt lib gmti` leaves the library.
+/// The folder where `rt lib` leaves the library.
 fn prove_and_build() -> PathBuf {
     let root = Path::new(env!("CARGO_MANIFEST_DIR")).join("../..");
     println!("cargo:rerun-if-changed=../../crates");
     println!("cargo:rerun-if-changed=../../crates.txt");
-    let built = Command::new("rt").args(["lib", "gmti"]).current_dir(&root).output();
+    let gmti = root.join("crates/gmti");
+    let built = Command::new("rt").arg("lib").current_dir(&gmti).output();
     match built {
-        Ok(output) if output.status.success() => root.join("crates/gmti/out"),
-        Ok(output) => panic!("rt lib gmti failed:\n{}", String::from_utf8_lossy(&output.stderr)),
+        Ok(output) if output.status.success() => gmti.join("out"),
+        Ok(output) => panic!("rt lib failed in crates/gmti:\n{}", String::from_utf8_lossy(&output.stderr)),
         Err(error) => {
             panic!("the Rattle toolchain's rt did not start ({error}); set GMTI_LIBRARY_DIR to the folder of a libgmti.a instead")
         }

@@ -49,7 +49,7 @@ fn source() -> Source {
 }
 
 fn is_contract(line: &str) -> bool {
-    line.starts_with("    requires {") || line.starts_with("    ensures {")
+    line.starts_with("    requires ") || line.starts_with("    ensures ")
 }
 
 /// Whether code has an array: a bracket that is neither an index nor the type of a slice, or a string of bytes.
