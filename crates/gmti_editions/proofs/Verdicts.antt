@@ -147,13 +147,13 @@ read-within settings l lent left s d t n e =
     record { checked = record { header = a.0.header; ending = a.0.ending }; fits = omega (arith, a.0.fits, same_length _ _ _ _ s d t n a.1) }
 
 -- the verdict, both answers, and that the demand gives it
-pub judged : (l lent1 lent3 buffer left1 left3 : List ℕ) (a1 a3 : Answer) (v : Verdict)
-    → outcome a3 left3 ≡ read (as_edition 3) l lent3 → outcome a1 left1 ≡ read (as_edition 1) l lent1 → v ≡ verdict l lent1 lent3 buffer
+pub judged : (l lent1 lent3 buffer kept1 kept3 : List ℕ) (a1 a3 : Answer) (v : Verdict)
+    → outcome a3 kept3 ≡ read (as_edition 3) l lent3 → outcome a1 kept1 ≡ read (as_edition 1) l lent1 → v ≡ verdict l lent1 lent3 buffer
     → (v ≡ verdict l lent1 lent3 buffer)
     × (((a3 ≡ (read (as_edition 3) l lent3).answer) × (a1 ≡ (read (as_edition 1) l lent1).answer))
     × (((s d t n : ℕ) → BothRead l lent1 lent3 s d t n → length l ≤ length buffer → Demanded l lent1 lent3 s d t n v)
     × ((s d t n : ℕ) → Version1Read l lent1 lent3 s d t n → length l ≤ length buffer → v ≡ Alike)))
-judged l lent1 lent3 buffer left1 left3 a1 a3 v e3 e1 is = (
+judged l lent1 lent3 buffer kept1 kept3 a1 a3 v e3 e1 is = (
   is,
   (
     (ap (λ (o : Outcome). o.answer) e3, ap (λ (o : Outcome). o.answer) e1),

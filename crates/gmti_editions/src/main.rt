@@ -24,6 +24,7 @@ ghost use Rattle.gmti_editions.specs.Line.{judged_text, packet_text, hex_of, lin
 
 use format::{Answer, Check, DwellRecord, JobRecord, New};
 use sheet_walk::Place;
+use std::io;
 
 // What both readings and the writer make of a packet.
 #[derive(Clone, Copy)]
@@ -411,21 +412,22 @@ fn answer(
     put_packet(line, name, packet, older, newer, buffer, out)
 }
 
-fn write(s: &[u8]) -> bool {
-    streams::write_all(b"gmti_editions: standard output is cut", s)
+fn write(rt: &(impl Print + Eprint), s: &[u8]) -> bool {
+    streams::write_all(rt, b"gmti_editions: standard output is cut", s)
 }
 
 // The line that answers one of which only the front is held.
-fn write_long(front: &[u8], out: &mut [u8]) -> bool
+fn write_long(rt: &(impl Print + Eprint), front: &[u8], out: &mut [u8]) -> bool
     requires { length front.now + 16 ≤ length out.old }
 {
     let name = lines::find(front, 0, b':');
     let n = vectors::put_unread(out, &front[..name], vectors::Fault::Length);
-    write(printing::front(out, n))
+    write(rt, printing::front(out, n))
 }
 
 // Answers what comes next, and whether to go on.
 fn write_next(
+    rt: &(impl Print + Eprint),
     next: lines::Next,
     input: &[u8],
     packet: &mut [u8],
@@ -442,9 +444,9 @@ fn write_next(
     match next {
         lines::Next::Line(from, to) => {
             let n = answer(&input[from..to], packet, older, newer, buffer, out);
-            write(printing::front(out, n))
+            write(rt, printing::front(out, n))
         }
-        lines::Next::Long => write_long(input, out),
+        lines::Next::Long => write_long(rt, input, out),
         lines::Next::End => false,
         lines::Next::Failed => false,
     }
@@ -457,8 +459,9 @@ const PACKET: usize = INPUT / 2;
 
 const OUT: usize = INPUT + 95;
 
-// As in `streams`, the turns are counted down so that the loop is seen to end.
+// As in `streams`, the loop has more turns than any run uses up.
 fn run(
+    rt: &(impl io::Input + Print + Eprint),
     input: &mut [u8; INPUT],
     packet: &mut [u8; PACKET],
     older: &mut [u8; format::LONGEST_SHEET],
@@ -467,18 +470,16 @@ fn run(
     out: &mut [u8; OUT],
 ) {
     let mut held = lines::Held::nothing();
-    let mut goes_on = true;
-    let mut turns = u64::MAX;
-    while turns > 0 && goes_on {
-        let step = lines::next_line(b"gmti_editions: standard input", input, held);
-        let next = step.next;
-        goes_on = write_next(next, input, packet, older, newer, buffer, out);
+    for _ in 0..u64::MAX {
+        let step = lines::next_line(rt, b"gmti_editions: standard input", input, held);
+        if !write_next(rt, step.next, input, packet, older, newer, buffer, out) {
+            return;
+        }
         held = step.held;
-        turns -= 1;
     }
 }
 
-fn main() {
+fn main(rt: HostRuntime) {
     let mut input = [0u8; INPUT];
     let mut packet = [0u8; PACKET];
     let mut older = [0u8; format::LONGEST_SHEET];
@@ -486,6 +487,7 @@ fn main() {
     let mut buffer = [0u8; format::LONGEST_PACKET];
     let mut out = [0u8; OUT];
     run(
+        &rt,
         &mut input,
         &mut packet,
         &mut older,

@@ -2,16 +2,14 @@
 -- Assumes nothing.
 use mathlib.Core.Path.{◌≡◌, sym, ap, ◌∙◌}
 use mathlib.Core.Bool.{Bool, cond, and-false}
-use mathlib.Core.Logic.{⊎_elim}
-use borrow.Author.Tests.{eq-eqb, ne_eqb, not-true, not-false}
-use lib.Dec.{eqb}
+use borrow.Author.Tests.{eq-eqb, ne_eqb}
 use lib.Seq.{length-take-le}
 use Rattle.gmti_editions.specs.declared.Verdict.{Verdict}
 use Rattle.gmti_editions.specs.declared.Verdict.TheVariants.{Alike, Broken}
 use Rattle.gmti_editions.specs.Verdict.{alike_verdict}
 use Rattle.gmti_editions.proofs.Cases.{alike-refused, other-counts, same-counts}
 use Rattle.gmti_editions.proofs.alike_verdict.Goals as goal
-use Rattle.gmti_editions.proofs.alike_verdict.Goals.{After-is_alike, Start}
+use Rattle.gmti_editions.proofs.alike_verdict.Goals.{After-is_alike, Start, then-s-segments-via-then-s-segments, then-s-segments-via-else-s-segments+then-d-dwells, then-s-segments-via-else-s-segments+else-d-dwells+then-t-targets, then-s-segments-via-else-s-segments+else-d-dwells+else-t-targets+then-n-length}
 
 -- the verdict that the contract names
 abbrev verdict_at : Start → Verdict
@@ -20,16 +18,14 @@ verdict_at c = alike_verdict c.args.l.now c.args.s c.args.d c.args.t c.args.n c.
 pub returns-then-s-segments : goal.returns-then-s-segments
 returns-then-s-segments c =
     let x = c.args in
-    let a = c.a-1.given in
-    other-counts x.l.now x.s x.d x.t x.n x.a x.older.now x.newer.now x.buffer.now a.0.0 a.0.1.0 a.0.1.1.0 a.0.1.1.1.0 a.1
-    (⊎_elim
-    (λ w. simp (ne_eqb x.s a.0.0 w.taken))
-    (⊎_elim
-    (λ w. simp (not-true (eqb x.d a.0.1.0) w.1.taken, and-false))
-    (⊎_elim
-    (λ w. simp (not-true (eqb x.t a.0.1.1.0) w.2.taken, and-false))
-    (λ w. simp (not-true (eqb x.n a.0.1.1.1.0) w.3.taken, and-false))))
-    c.then-s-segments.branch)
+    let a = c.in-Accepted in
+    other-counts x.l.now x.s x.d x.t x.n x.a x.older.now x.newer.now x.buffer.now a.segments a.dwells a.targets a.length a.is
+    (elim c.then-s-segments.branch [
+      | then-s-segments-via-then-s-segments w ↦ simp (ne_eqb x.s a.segments w.if-s-segments.true)
+      | then-s-segments-via-else-s-segments+then-d-dwells w ↦ simp (ne_eqb x.d a.dwells w.if-d-dwells.true, and-false)
+      | then-s-segments-via-else-s-segments+else-d-dwells+then-t-targets w ↦ simp (ne_eqb x.t a.targets w.if-t-targets.true, and-false)
+      | then-s-segments-via-else-s-segments+else-d-dwells+else-t-targets+then-n-length w ↦ simp (ne_eqb x.n a.length w.if-n-length.true, and-false)
+    ])
 
 pub slice_bounds-is_alike-end-in-Accepted : goal.slice_bounds-is_alike-end-in-Accepted
 slice_bounds-is_alike-end-in-Accepted c =
@@ -42,20 +38,20 @@ slice_bounds-is_alike-end-in-Accepted-2 c =
 pub returns-in-Refused : goal.returns-in-Refused
 returns-in-Refused c =
     let x = c.args in
-    let a = c.enum_told-1.given in
-    alike-refused x.l.now x.s x.d x.t x.n x.a x.older.now x.newer.now x.buffer.now a.0.0 a.0.1.0 a.0.1.1.0 a.1
+    let a = c.in-Refused in
+    alike-refused x.l.now x.s x.d x.t x.n x.a x.older.now x.newer.now x.buffer.now _ _ _ a.is
 
 -- the verdict where the counts and the length are the same
 alike_is : (c : After-is_alike) → cond c.is_alike.result Alike Broken ≡ verdict_at (goal.at.After-is_alike c).Start
 alike_is c =
-    let a = c.a-1.given in
+    let a = c.in-Accepted in
     let x = c.args in
-    same-counts x.l.now x.s x.d x.t x.n x.a x.older.now x.newer.now x.buffer.now a.0.0 a.0.1.0 a.0.1.1.0 a.0.1.1.1.0 a.1
+    same-counts x.l.now x.s x.d x.t x.n x.a x.older.now x.newer.now x.buffer.now a.segments a.dwells a.targets a.length a.is
     (simp (
-      eq-eqb x.s a.0.0 c.if-s-segments.false,
-      not-false (eqb x.d a.0.1.0) c.if-d-dwells.false-raw,
-      not-false (eqb x.t a.0.1.1.0) c.if-t-targets.false-raw,
-      not-false (eqb x.n a.0.1.1.1.0) c.if-n-length.false,
+      eq-eqb x.s a.segments c.if-s-segments.false,
+      eq-eqb x.d a.dwells c.if-d-dwells.false,
+      eq-eqb x.t a.targets c.if-t-targets.false,
+      eq-eqb x.n a.length c.if-n-length.false,
     ))
     c.is_alike.result c.is_alike.ensures
 

@@ -2,8 +2,6 @@
 -- Assumes nothing.
 use native.Mathlib.Omega.{arith}
 use mathlib.Core.Path.{◌≡◌, sym, ◌∙◌}
-use mathlib.Core.List.{[], ◌∷◌}
-use types.Run.{miss}
 use lib.ListN.{length, take}
 use lib.Seq.{length-take-le}
 use Rattle.vectors.specs.declared.Fault.TheVariants.{Nothing}
@@ -21,26 +19,31 @@ found c = omega (arith, c.find-name.ensures.value)
 
 -- what is not in the first arm has a fault
 faulty : (c : In_default) → c.fault-f.result ≡ Nothing → ⊥
-faulty c e = miss (1 ∷ 2 ∷ 3 ∷ 4 ∷ 5 ∷ []) 0 tt (rw e at c.in_default.keys2)
+faulty c = c.in_default.not-Nothing
 
 pub slice_bounds-put_unread-end : goal.slice_bounds-put_unread-end
 slice_bounds-put_unread-end c = sym (named (goal.at.slice_bounds-put_unread-end c).After-find-name)
 
 pub put_unread-requires : goal.put_unread-requires
-put_unread-requires c = omega (arith, named (goal.at.put_unread-requires c).After-find-name, c.find-name.ensures.lower_bound.1, c.requires.1.1)
+put_unread-requires c = omega (arith, named (goal.at.put_unread-requires c).After-find-name, c.find-name.ensures.lower_bound.1, c.requires.line_in_bounds_2)
 
 pub returns-in_default : goal.returns-in_default
 returns-in_default c =
     let put = c.put_unread in
     let said = fault-said c.args.line.now c.args.older.now c.args.newer.now c.args.buffer.now c.fault-f.ensures (found (goal.at.returns-in_default c).After-find-name) (faulty (goal.at.returns-in_default c).In_default) in
-    rw said put.ensures
+    record { value = rw said put.ensures.value; out_after = rw said put.ensures.o_after }
 
 pub put_packet-requires : goal.put_packet-requires
 put_packet-requires c =
-    ((found (goal.at.put_packet-requires c).After-find-name, fault-nothing c.args.line.now (sym c.fault-f.ensures ∙ c.in-Nothing.is)), (c.requires.0, (c.requires.1.0, c.requires.1.1)))
+    record {
+      name_value = (found (goal.at.put_packet-requires c).After-find-name, fault-nothing c.args.line.now (sym c.fault-f.ensures ∙ c.in-Nothing.is));
+      line_in_bounds = c.requires.line_in_bounds;
+      older_len = c.requires.older_len;
+      line_in_bounds_2 = c.requires.line_in_bounds_2;
+    }
 
 pub returns : goal.returns
 returns c =
     let put = c.put_packet in
     let said = nothing_said c.args.line.now c.args.older.now c.args.newer.now c.args.buffer.now c.fault-f.ensures c.in-Nothing.is in
-    rw said put.ensures
+    record { value = rw said put.ensures.value; out_after = rw said put.ensures.out_after }

@@ -1,6 +1,6 @@
 -- `gmti_editions::first_new` meets its contract. The loop keeps that the first new thing of the segments that are left is that of the packet.
 -- Assumes nothing.
-use Prim.Native.Nat.{◌-◌, ◌≤◌}
+use Prim.Native.Nat.{◌≤◌}
 use native.Mathlib.Omega.{arith}
 use mathlib.Core.Path.{sym, ◌∙◌}
 use lib.ListN.{length}
@@ -22,20 +22,14 @@ size_at-size-requires c =
 
 -- the segment of a turn, and those behind it
 module _ (c : After-size_at-size) where
-  abbrev place : At-loop-at
-  place = c
+  short : length c.args.packet.now ≤ 65536
+  short = (header-sized (as_edition 3) c.args.packet.now c.requires.header).short
 
-  abbrev start : Start
-  start = place.before.before
+  here : let l = c.args.packet.now in Turn (reading_of (as_edition 3) l) l c.loop-at.at c.loop-at.invariant.left c.size_at-size.result
+  here = let l = c.args.packet.now in turn (reading_of (as_edition 3) l) l c.loop-at.at c.loop-at.invariant.left short c.loop-at-test.true _ c.size_at-size.ensures
 
-  short : length start.args.packet.now ≤ 65536
-  short = (header-sized (as_edition 3) start.args.packet.now start.pre.header).short
-
-  here : let l = start.args.packet.now in Turn (reading_of (as_edition 3) l) l place.loop.at place.loop.inv.left c.size_at-size.result
-  here = let l = start.args.packet.now in turn (reading_of (as_edition 3) l) l place.loop.at place.loop.inv.left short c.loop-at-test.true _ c.size_at-size.ensures
-
-  after : let l = start.args.packet.now in Behind (reading_of (as_edition 3) l) l place.loop.at place.loop.inv.left c.size_at-size.result
-  after = let l = start.args.packet.now in behind (reading_of (as_edition 3) l) l place.loop.at place.loop.inv.left _ c.loop-at-test.true c.size_at-size.ensures here
+  after : let l = c.args.packet.now in Behind (reading_of (as_edition 3) l) l c.loop-at.at c.loop-at.invariant.left c.size_at-size.result
+  after = let l = c.args.packet.now in behind (reading_of (as_edition 3) l) l c.loop-at.at c.loop-at.invariant.left _ c.loop-at-test.true c.size_at-size.ensures here
 
 pub bounds-t-0 : goal.bounds-t-0
 bounds-t-0 c = let t = here (goal.at.bounds-t-0 c).After-size_at-size in omega (arith, t.header, t.part)
@@ -54,11 +48,11 @@ new_row-requires c = looked-at _ _ _ (here (goal.at.new_row-requires c).After-si
 
 pub returns-in-Failed : goal.returns-in-Failed
 returns-in-Failed c =
-    found_here (place (goal.at.returns-in-Failed c).After-size_at-size).loop.invariant (after (goal.at.returns-in-Failed c).After-size_at-size) (sym c.new_row.ensures ∙ c.in-Failed.is)
+    found_here c.loop-at.invariant (after (goal.at.returns-in-Failed c).After-size_at-size) (sym c.new_row.ensures ∙ c.in-Failed.is)
 
 pub overflow_add-segment : goal.overflow_add-segment
 overflow_add-segment c =
-    let i = (place (goal.at.overflow_add-segment c).After-size_at-size).loop.invariant in
+    let i = c.loop-at.invariant in
     omega (arith, i.few, i.left.within, short (goal.at.overflow_add-segment c).After-size_at-size)
 
 pub overflow_add-at : goal.overflow_add-at
@@ -69,7 +63,7 @@ loop-at-smaller c = let t = here (goal.at.loop-at-smaller c).After-size_at-size 
 
 pub loop-at-preserved : goal.loop-at-preserved
 loop-at-preserved c =
-    sought-on (place (goal.at.loop-at-preserved c).After-size_at-size).loop.invariant (after (goal.at.loop-at-preserved c).After-size_at-size) (here (goal.at.loop-at-preserved c).After-size_at-size).header (sym c.new_row.ensures ∙ c.in_default.is)
+    sought-on c.loop-at.invariant (after (goal.at.loop-at-preserved c).After-size_at-size) (here (goal.at.loop-at-preserved c).After-size_at-size).header (sym c.new_row.ensures ∙ c.in_default.is)
 
 pub returns : goal.returns
 returns c = none_found c.loop-at.invariant c.loop-at-test.false

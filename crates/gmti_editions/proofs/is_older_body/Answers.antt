@@ -1,17 +1,10 @@
 -- `gmti_editions::is_older_body` meets its contract. The loop keeps that the bytes that are left decide as all of them do.
 -- Assumes nothing.
-use Prim.Native.Nat.{ℕ, ◌-◌}
 use native.Mathlib.Omega.{arith}
 use mathlib.Core.Path.{refl, ◌∙◌}
-use mathlib.Core.Bool.{Bool}
-use mathlib.Core.List.{List}
-use Rattle.demands.specs.Places.{is_withheld_in}
 use Rattle.gmti_editions.proofs.Sheets.{byte-differs, byte-same, body_end}
+use Rattle.gmti_editions.proofs.is_older_body.Invariants.{places}
 use Rattle.gmti_editions.proofs.is_older_body.Goals as goal
-
--- the places that are withheld
-abbrev places : ℕ → List ℕ → ℕ → Bool
-places kind newer = is_withheld_in (record { kind = kind; body = newer })
 
 pub returns-then-older_byte-older : goal.returns-then-older_byte-older
 returns-then-older_byte-older c =

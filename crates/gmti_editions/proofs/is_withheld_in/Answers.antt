@@ -8,12 +8,12 @@ use Rattle.gmti_editions.proofs.is_withheld_in.Goals as goal
 
 pub returns-then-is_within : goal.returns-then-is_within
 unfolding is_withheld_in is_in_field total
-returns-then-is_within c b = rw (c.if-kind-eq-KIND.true, sym c.is_Within.ensures ∙ c.if-is_within.true) c.if-is_within.true
+returns-then-is_within c b = rw (c.if-kind-eq-KIND.true, sym c.is_within.ensures ∙ c.if-is_within.true) c.if-is_within.true
 
 pub returns-else-is_within : goal.returns-else-is_within
 unfolding is_withheld_in is_in_field total
 returns-else-is_within c b =
-    rw (c.if-kind-eq-KIND.true, sym c.is_Within.ensures ∙ c.if-is_within.false) c.is_within-else-is_within.ensures
+    rw (c.if-kind-eq-KIND.true, sym c.is_within.ensures ∙ c.if-is_within.false) c.is_within-else-is_within.ensures
 
 pub returns-then-is_within-2 : goal.returns-then-is_within-2
 unfolding is_withheld_in is_in_field total

@@ -1,11 +1,10 @@
 -- `gmti_editions::is_withheld_sheet` meets its contract. The loop keeps that what is left of the two sheets decides as the whole does.
 -- Assumes nothing.
-use Prim.Native.Nat.{ℕ, ◌-◌}
+use Prim.Native.Nat.{ℕ}
 use native.Mathlib.Omega.{arith}
 use mathlib.Core.Path.{◌≡◌, refl, sym, ap₂, ◌∙◌}
 use mathlib.Core.List.{List}
 use borrow.Author.Rules.{rules}
-use borrow.Author.Tests.{not-true, not-false}
 use lib.ListN.{length}
 use Rattle.octets.proofs.Parts.{tail-is}
 use Rattle.format.specs.Writer.{is_same}
@@ -26,37 +25,34 @@ pub returns-in_default : goal.returns-in_default
 returns-in_default c =
     let l = c.loop-kind in
     let a = c.args in
-    let none = none-withheld a.newer.now l.at (none-at a.newer.now l.at _ c.record_at.ensures c.in_default.keys2) in
+    let none = none-withheld a.newer.now l.at (none-at a.newer.now l.at _ c.record_at.ensures c.in_default.not-Whole) in
     c.same.ensures
     ∙ ap₂ (λ (x y : List ℕ). is_same x y) (tail-is l.at a.newer.now ∙ sym none) (tail-is l.at a.older.now)
     ∙ l.invariant.rest
 
 -- in a turn that goes on, a whole record is at the place
 module _ (c : In-Whole) where
-  abbrev place : At-loop-kind
-  place = c
-
   abbrev older : List ℕ
-  older = place.before.before.before.before.args.older.now
+  older = c.args.older.now
 
-  same : length older ≡ length place.before.before.before.before.args.newer.now
-  same = place.before.if1.left
+  same : length older ≡ length c.args.newer.now
+  same = c.if-older-newer.false
 
-  here : let k = c.kind-1.given.0 in WholeAt place.before.before.before.before.args.newer.now place.loop.at k.0 k.1.0
+  here : let k = c.in-Whole in WholeAt c.args.newer.now c.loop-kind.at k.kind k.end
   here = at_place _ _ c.record_at.ensures c.in-Whole.is
 
 pub returns-then-kind-older : goal.returns-then-kind-older
-returns-then-kind-older c = kind-differs (here (goal.at.returns-then-kind-older c).In-Whole) (older (goal.at.returns-then-kind-older c).In-Whole) (same (goal.at.returns-then-kind-older c).In-Whole) c.if-kind-older.true ∙ (place (goal.at.returns-then-kind-older c).In-Whole).loop.invariant.rest
+returns-then-kind-older c = kind-differs (here (goal.at.returns-then-kind-older c).In-Whole) (older (goal.at.returns-then-kind-older c).In-Whole) (same (goal.at.returns-then-kind-older c).In-Whole) c.if-kind-older.true ∙ c.loop-kind.invariant.rest
 
 pub returns-then-not-is_older_body : goal.returns-then-not-is_older_body
 returns-then-not-is_older_body c =
-    body-differs (here (goal.at.returns-then-not-is_older_body c).In-Whole) (older (goal.at.returns-then-not-is_older_body c).In-Whole) (same (goal.at.returns-then-not-is_older_body c).In-Whole) c.if-kind-older.false c.is_older_body.ensures (not-true _ c.if-not-is_older_body.true-raw) ∙ (place (goal.at.returns-then-not-is_older_body c).In-Whole).loop.invariant.rest
+    body-differs (here (goal.at.returns-then-not-is_older_body c).In-Whole) (older (goal.at.returns-then-not-is_older_body c).In-Whole) (same (goal.at.returns-then-not-is_older_body c).In-Whole) c.if-kind-older.false c.is_older_body.ensures c.if-not-is_older_body.true ∙ c.loop-kind.invariant.rest
 
 pub loop-kind-preserved : goal.loop-kind-preserved
 loop-kind-preserved c =
     record {
-      within = (here (goal.at.loop-kind-preserved c).In-Whole).ranges;
-      rest = record_same (here (goal.at.loop-kind-preserved c).In-Whole) (older (goal.at.loop-kind-preserved c).In-Whole) (same (goal.at.loop-kind-preserved c).In-Whole) c.if-kind-older.false c.is_older_body.ensures (not-false _ c.if-not-is_older_body.false-raw) ∙ (place (goal.at.loop-kind-preserved c).In-Whole).loop.invariant.rest;
+      within = (here (goal.at.loop-kind-preserved c).In-Whole).fits;
+      rest = record_same (here (goal.at.loop-kind-preserved c).In-Whole) (older (goal.at.loop-kind-preserved c).In-Whole) (same (goal.at.loop-kind-preserved c).In-Whole) c.if-kind-older.false c.is_older_body.ensures c.if-not-is_older_body.false ∙ c.loop-kind.invariant.rest;
     }
 
 pub bounds-older-at : goal.bounds-older-at

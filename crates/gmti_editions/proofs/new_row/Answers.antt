@@ -4,7 +4,6 @@ use Prim.Native.Nat.{ℕ}
 use native.Mathlib.Omega.{arith}
 use mathlib.Core.Path.{◌≡◌, sym, ap, ◌∙◌}
 use mathlib.Core.List.{[], ◌∷◌}
-use mathlib.Core.Logic.{⊎_elim}
 use borrow.Author.Tests.{eq-eqb, ne_eqb}
 use lib.ListN.{get_or}
 use Rattle.octets.specs.Layout.{total, value}
@@ -16,7 +15,7 @@ use Rattle.format.specs.Edition.{is_new_mode}
 use Rattle.format.specs.Rows.{naming, first_row}
 use Rattle.gmti_editions.proofs.Seeking.{new-type, new-dwell, new-mode, nothing-new}
 use Rattle.gmti_editions.proofs.new_row.Goals as goal
-use Rattle.gmti_editions.proofs.new_row.Goals.{Start}
+use Rattle.gmti_editions.proofs.new_row.Goals.{Start, else-segment_type-eq5-via-then-segment_type-eq5+else-is_new_mode, else-segment_type-eq5-via-else-segment_type-eq5}
 
 -- J14 is the byte that the code reads
 mode-is : (s : Start) → is_new_mode (J 14 s.args.b.now) ≡ is_new_mode (get_or s.args.b.now 45 0)
@@ -46,7 +45,7 @@ pub returns : goal.returns
 returns c =
     let t = c.args.segment_type in
     nothing-new t c.args.b.now c.if-segment_type-eq3.false c.if-segment_type-eq2.false
-    (⊎_elim
-    (λ w. rw (eq-eqb t 5 w.0.taken) (mode-is (goal.at.returns c).Start ∙ sym w.2.ensures ∙ w.3.left))
-    (λ w. rw (ne_eqb t 5 w.left))
-    c.else-segment_type-eq5.branch)
+    (elim c.else-segment_type-eq5.branch [
+      | else-segment_type-eq5-via-then-segment_type-eq5+else-is_new_mode w ↦ rw (eq-eqb t 5 w.if-segment_type-eq5.true) (mode-is (goal.at.returns c).Start ∙ sym w.is_new_mode.ensures ∙ w.if-is_new_mode.false)
+      | else-segment_type-eq5-via-else-segment_type-eq5 w ↦ rw (ne_eqb t 5 w.if-segment_type-eq5.false)
+    ])

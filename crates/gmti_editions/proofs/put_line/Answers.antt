@@ -10,8 +10,8 @@ use Rattle.gmti_editions.proofs.put_line.Goals as goal
 use Rattle.gmti_editions.proofs.put_line.Goals.{After-put_judged-q}
 
 -- the buffer keeps its length
-kept : (c : After-put_judged-q) → length (set c.put_judged-q.new.0 c.put_judged-q.result 10) ≡ length c.args.out.now
-kept c = length-set {A = ℕ} c.put_judged-q.new.0 c.put_judged-q.result 10 ∙ c.put_judged-q.auto.0 ∙ c.put_name-p.auto.0
+kept : (c : After-put_judged-q) → length (set c.put_judged-q.new.o c.put_judged-q.result 10) ≡ length c.args.out.now
+kept c = length-set {A = ℕ} c.put_judged-q.new.o c.put_judged-q.result 10 ∙ c.put_judged-q.auto.o ∙ c.put_name-p.auto.o
 
 pub shape_of-out : goal.shape_of-out
 shape_of-out c = kept (goal.at.shape_of-out c).After-put_judged-q
@@ -21,5 +21,5 @@ returns c =
     let name = c.put_name-p in
     let put = c.put_judged-q in
     let j = c.args.j in
-    let laid = judged-laid c.args.name.now c.args.out.now j.verdict j.newer j.older (label-laid c.args.name.now c.args.out.now name.ensures.0 name.ensures.1) (put.ensures.0.0, put.ensures.1) in
-    ((omega (arith, laid.0), omega (arith, kept (goal.at.returns c).After-put_judged-q, put.ensures.0.1, name.ensures.0, c.requires)), laid.1)
+    let laid = judged-laid c.args.name.now c.args.out.now j.verdict j.newer j.older (label-laid c.args.name.now c.args.out.now name.ensures.value name.ensures.o_after) (put.ensures.value.0, put.ensures.o_after) in
+    record { value = (omega (arith, laid.0), omega (arith, kept (goal.at.returns c).After-put_judged-q, put.ensures.value.1, name.ensures.value, c.requires)); out_after = laid.1 }

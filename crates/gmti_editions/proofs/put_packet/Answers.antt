@@ -13,7 +13,7 @@ use Rattle.gmti_editions.proofs.put_packet.Goals.{Start}
 
 -- the name ends within the line
 within : (c : Start) → c.args.name ≤ length c.args.line.now
-within c = omega (arith, c.requires.0.0, before-le 58 c.args.line.now)
+within c = omega (arith, c.requires.name_value.0, before-le 58 c.args.line.now)
 
 named : (c : Start) → length (take c.args.name c.args.line.now) ≡ c.args.name
 named c = length-take-le c.args.name c.args.line.now (within c)
@@ -25,16 +25,19 @@ pub unhex-n-requires : goal.unhex-n-requires
 unhex-n-requires c =
     let line = c.args.line.now in
     let h = c.further-hex.result in
-    (ap hex_fault (hex-from line c.requires.0.0 c.further-hex.ensures.0) ∙ c.requires.0.1, omega (arith, length-take (length line - h) (drop h line), length-drop h line, c.requires.1.0))
+    record {
+      s_value = ap hex_fault (hex-from line c.requires.name_value.0 c.further-hex.ensures.0) ∙ c.requires.name_value.1;
+      s_in_bounds = omega (arith, length-take (length line - h) (drop h line), length-drop h line, c.requires.line_in_bounds);
+    }
 
 pub slice_bounds-judge-end-2 : goal.slice_bounds-judge-end-2
-slice_bounds-judge-end-2 c = let u = c.unhex-n in sym (length-take-le u.result u.new.1.0 u.ensures.0.1)
+slice_bounds-judge-end-2 c = let u = c.unhex-n in sym (length-take-le u.result u.new.o u.ensures.value.1)
 
 pub slice_bounds-put_line-end : goal.slice_bounds-put_line-end
 slice_bounds-put_line-end c = sym (named (goal.at.slice_bounds-put_line-end c).Start)
 
 pub put_line-requires : goal.put_line-requires
-put_line-requires c = omega (arith, named (goal.at.put_line-requires c).Start, within (goal.at.put_line-requires c).Start, c.requires.1.1.1)
+put_line-requires c = omega (arith, named (goal.at.put_line-requires c).Start, within (goal.at.put_line-requires c).Start, c.requires.line_in_bounds_2)
 
 pub returns : goal.returns
 returns c =
@@ -42,7 +45,7 @@ returns c =
     let put = c.put_line in
     let judged = c.judge-j in
     let u = c.unhex-n in
-    let hex = hex-from line c.requires.0.0 c.further-hex.ensures.0 in
-    let spelt = spelt-front (take (length line - c.further-hex.result) (drop c.further-hex.result line)) c.args.packet.now u.ensures.0.0 (omega (arith, u.ensures.0.1, u.auto.1.0)) u.ensures.1 ∙ ap unhexed hex in
-    let said = packet-said line c.args.older.now c.args.newer.now c.args.buffer.now c.requires.0.0 spelt judged.ensures.0 judged.ensures.1.0.0 judged.ensures.1.0.1 in
-    rw (← said) put.ensures
+    let hex = hex-from line c.requires.name_value.0 c.further-hex.ensures.0 in
+    let spelt = spelt-front (take (length line - c.further-hex.result) (drop c.further-hex.result line)) c.args.packet.now u.ensures.value.0 (omega (arith, u.ensures.value.1, u.auto.o)) u.ensures.o_after ∙ ap unhexed hex in
+    let said = packet-said line c.args.older.now c.args.newer.now c.args.buffer.now c.requires.name_value.0 spelt judged.ensures.verdict_value judged.ensures.newer_after.0 judged.ensures.newer_after.1 in
+    record { value = rw (← said) put.ensures.value; out_after = rw (← said) put.ensures.out_after }

