@@ -970,10 +970,10 @@ def compiled(room: Path) -> Path:
 def gathered(folder: Path) -> Path:
     """The programs side by side: rt leaves each in a folder of its own crate."""
     folder.mkdir()
-    for program in programs():
-        built = ROOT / "crates" / program.name / "out" / program.name
+    for name in {program.name for program in programs()}:
+        built = ROOT / "crates" / name / "out" / name
         if built.exists():
-            (folder / program.name).symlink_to(built)
+            (folder / name).symlink_to(built)
     return folder
 
 
