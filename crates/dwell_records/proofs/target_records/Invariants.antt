@@ -15,6 +15,3 @@ invariant-loop-i l =
     (l.i ≤ l.count) × (l.at ≡ l.i * l.p.each) × (l.q ≡ l.i * record_length 4) × (length l.o ≡ length l.initial.o)
     × (first_row (targets_rows l.p.mask l.p.area (l.count - l.i) (drop l.at l.t)) ≡ Passed)
     × (sets l.o l.q (record_bytes (target_records l.p.mask l.p.area (l.count - l.i) (drop l.at l.t))) ≡ sets l.initial.o 0 (record_bytes (target_records l.p.mask l.p.area l.count l.t)))
-
-abbrev pub decreases-loop-i : goal.decreases-loop-i
-decreases-loop-i l = l.count - l.i

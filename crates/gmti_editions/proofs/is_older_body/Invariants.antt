@@ -1,6 +1,6 @@
 -- `gmti_editions::is_older_body` meets its contract. The loop keeps that the bytes that are left decide as all of them do.
 -- Assumes nothing.
-use Prim.Native.Nat.{ℕ, ◌-◌, ◌≤◌}
+use Prim.Native.Nat.{ℕ, ◌≤◌}
 use mathlib.Core.Path.{◌≡◌}
 use mathlib.Core.Bool.{Bool}
 use mathlib.Core.List.{List}
@@ -18,6 +18,3 @@ abbrev pub invariant-loop-i : goal.invariant-loop-i
 invariant-loop-i l =
     (l.i-end ≡ length l.newer) × (l.i ≤ length l.newer)
     × (is_same (drop l.i (zero_where (places l.kind l.newer) l.newer)) (drop l.i l.older) ≡ is_same (zero_where (places l.kind l.newer) l.newer) l.older)
-
-abbrev pub decreases-loop-i : goal.decreases-loop-i
-decreases-loop-i l = l.i-end - l.i

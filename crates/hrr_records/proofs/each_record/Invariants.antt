@@ -13,6 +13,3 @@ abbrev pub invariant-loop-i : goal.invariant-loop-i
 invariant-loop-i l =
     (l.i ≤ l.count) × (l.at ≡ l.i * l.each) × (l.q ≡ l.i * record_length 12) × (length l.o ≡ length l.initial.o)
     × (sets l.o l.q (record_bytes (scatterer_records (digits l.n) (l.count - l.i) (drop l.at l.t))) ≡ sets l.initial.o 0 (record_bytes (scatterer_records (digits l.n) l.count l.t)))
-
-abbrev pub decreases-loop-i : goal.decreases-loop-i
-decreases-loop-i l = l.count - l.i

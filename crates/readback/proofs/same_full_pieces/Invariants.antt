@@ -1,6 +1,6 @@
 -- `readback::same_full_pieces` meets its contract. The loop keeps that the pieces that are left decide as all of them do.
 -- Assumes nothing.
-use Prim.Native.Nat.{◌-◌, ◌*◌, ◌≤◌}
+use Prim.Native.Nat.{◌*◌, ◌≤◌}
 use mathlib.Core.Path.{◌≡◌}
 use lib.ListN.{take}
 use Rattle.format.specs.Sheet.{piece_records, record_bytes}
@@ -11,6 +11,3 @@ use Rattle.readback.proofs.same_full_pieces.Given as goal
 
 abbrev pub invariant-loop-i : goal.invariant-loop-i
 invariant-loop-i l = (l.i ≤ l.count) × (same_from l.b l.x l.count l.i ≡ is_same (record_bytes (piece_records l.count l.b)) (take (l.count * record_length 6) l.x))
-
-abbrev pub decreases-loop-i : goal.decreases-loop-i
-decreases-loop-i l = l.count - l.i

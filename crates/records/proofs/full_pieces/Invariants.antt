@@ -11,6 +11,3 @@ use Rattle.records.proofs.full_pieces.Given as goal
 abbrev pub invariant-loop-i : goal.invariant-loop-i
 invariant-loop-i l =
     (l.i ≤ l.count) × (length l.o ≡ length l.initial.o) × (sets l.o (l.i * record_length 6) (record_bytes (piece_records (l.count - l.i) (drop (l.i * 32) l.b))) ≡ sets l.initial.o 0 (record_bytes (piece_records l.count l.b)))
-
-abbrev pub decreases-loop-i : goal.decreases-loop-i
-decreases-loop-i l = l.count - l.i
