@@ -304,7 +304,7 @@ def turned(crate, function, names, text):
 
     inv, ans = [], []
     for name, kind, p in decls:
-        comment = "".join(l + "\n" for l in p.split("\n") if l.startswith("--") and not l.startswith("-- ----")) if True else ""
+        comment = "".join(l + "\n" for l in p.split("\n") if l.startswith("--") and not l.startswith("-- ----"))
         code = "\n".join(l for l in p.split("\n") if not l.startswith("--"))
         if not code.strip():
             continue
