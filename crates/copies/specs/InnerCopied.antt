@@ -8,10 +8,6 @@ use Rattle.octets.specs.Layout.{pad}
 abbrev pub Room : ℕ → List ℕ → ℕ → List ℕ → ℕ → Type 0
 Room n s p l q = (p + n ≤ length s) × (q + n ≤ length l)
 
--- s has from least to most bytes, and l has room for all of them from q on
-abbrev pub RoomForAll : ℕ → ℕ → List ℕ → List ℕ → ℕ → Type 0
-RoomForAll least most s l q = (least ≤ length s) × (length s ≤ most) × (q + length s ≤ length l)
-
 -- l with the n bytes of s from p on stored from q on
 abbrev pub copied : ℕ → List ℕ → ℕ → List ℕ → ℕ → List ℕ
 copied n s p l q = sets l q (take n (drop p s))

@@ -10,12 +10,9 @@ use borrow.Author.Tests.{leb-true, leb-false}
 use lib.Dec.{leb}
 use lib.ListN.{length, drop}
 use Rattle.format.specs.declared.Settings.{Settings}
-use Rattle.format.specs.declared.Check.{Check}
-use Rattle.format.specs.declared.Check.TheVariants.{Passed, Failed}
-use Rattle.format.specs.declared.Answer.{Answer}
-use Rattle.format.specs.declared.Answer.TheVariants.{Accepted, Refused}
+use Rattle.format.specs.Check.{Check, Passed, Failed}
+use Rattle.format.specs.Answer.{Answer, Accepted, Refused, Outcome, outcome, left_by}
 use Rattle.format.specs.Packet.{Segment}
-use Rattle.format.specs.Answer.{Outcome, outcome, left_by}
 use Rattle.format.specs.Rows.{first_row, header_rows}
 use Rattle.format.specs.Reader.{parsed, reading_of, dwells_in, targets_in, sheet, segments_answer, reading_answer, read}
 use Rattle.format.specs.Writer.{is_accepted, writer_rows, spell, writer_answer, writing_answer, write}

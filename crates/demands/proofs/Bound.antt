@@ -10,11 +10,8 @@ use borrow.Author.Tests.{le-leb}
 use lib.Dec.{leb, eqb}
 use lib.ListN.{length, get_or, drop}
 use Rattle.format.specs.declared.Settings.{Settings}
-use Rattle.format.specs.declared.Check.{Check}
-use Rattle.format.specs.declared.Check.TheVariants.{Passed, Failed}
-use Rattle.format.specs.declared.Answer.{Answer}
-use Rattle.format.specs.declared.Answer.TheVariants.{Refused}
-use Rattle.format.specs.Answer.{numbers_of}
+use Rattle.format.specs.Check.{Check, Passed, Failed}
+use Rattle.format.specs.Answer.{Answer, Refused, numbers_of}
 use Rattle.format.specs.Rows.{first_row, header_rows}
 use Rattle.format.specs.Reader.{reading_of, parsed, sheet, segments_answer, reading_answer, read}
 use Rattle.format.specs.Bound.{formula, sheet_bound, EnoughFor}

@@ -9,18 +9,13 @@ use lib.ListN.{length, get_or, take, drop, length-drop, drop_of_length-le}
 use lib.Seq.{take_at}
 use Rattle.octets.specs.Layout.{over}
 use Rattle.format.specs.declared.Settings.{Settings}
-use Rattle.format.specs.declared.Check.{Check}
-use Rattle.format.specs.declared.Check.TheVariants.{Passed, Failed}
-use Rattle.format.specs.declared.Answer.{Answer}
-use Rattle.format.specs.declared.Answer.TheVariants.{Accepted, Refused}
+use Rattle.format.specs.Check.{Check, Passed, Failed}
+use Rattle.format.specs.Answer.{Answer, Accepted, Refused, outcome, left_by}
 use Rattle.format.specs.Packet.{version}
 use Rattle.format.specs.Edition.{as_edition, is_older}
 use Rattle.format.specs.Sheet.{header_record, packet_records, record_bytes}
-use Rattle.format.specs.Answer.{outcome, left_by}
 use Rattle.format.specs.Rows.{first_row, header_rows}
-use Rattle.format.specs.declared.New.{New}
-use Rattle.format.specs.declared.New.TheVariants.{Nothing, Found}
-use Rattle.format.specs.New.{first_new}
+use Rattle.format.specs.New.{New, Nothing, Found, first_new}
 use Rattle.format.specs.Reader.{Parsed, parsed, reading_of, sheet, reading_answer, read}
 use Rattle.format.specs.Writer.{Listed, listed, write}
 use Rattle.format.proofs.Records.{listed-sheet}

@@ -12,13 +12,10 @@ use lib.Dec.{leb}
 use lib.ListN.{length, drop, length-drop}
 use Rattle.format.specs.declared.Settings.{Settings}
 use Rattle.format.specs.declared.Reading.{Reading}
-use Rattle.format.specs.declared.Check.{Check}
-use Rattle.format.specs.declared.Check.TheVariants.{Passed, Failed}
-use Rattle.format.specs.declared.Answer.{Answer}
-use Rattle.format.specs.declared.Answer.TheVariants.{Accepted, Refused}
+use Rattle.format.specs.Check.{Check, Passed, Failed}
+use Rattle.format.specs.Answer.{Answer, Accepted, Refused, outcome, left_by}
 use Rattle.format.specs.Packet.{Segment, size_at, segment_at}
 use Rattle.octets.specs.Layout.{over}
-use Rattle.format.specs.Answer.{outcome, left_by}
 use Rattle.format.specs.Rows.{first_row, header_rows, segment_rows}
 use Rattle.format.specs.Reader.{Parsed, parse, dwells_in, targets_in, reading_of, parsed, set_out_of, sheet, segments_answer, reading_answer, read}
 use Rattle.format.proofs.Rows.{segment-passes}

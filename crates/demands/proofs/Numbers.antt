@@ -19,15 +19,12 @@ use Rattle.mask.specs.Mask.{first_from, is_fault, lowest_fault, is_gap, d28to30,
 use Rattle.format.specs.declared.Settings.{Settings}
 use Rattle.format.specs.declared.Reading.{Reading}
 use Rattle.format.specs.declared.Area.{Area}
-use Rattle.format.specs.declared.Check.{Check}
-use Rattle.format.specs.declared.Check.TheVariants.{Passed, Failed}
-use Rattle.format.specs.declared.Answer.{Answer}
-use Rattle.format.specs.declared.Answer.TheVariants.{Accepted, Refused}
+use Rattle.format.specs.Check.{Check, Passed, Failed}
+use Rattle.format.specs.Answer.{Answer, Accepted, Refused, numbers_of}
 use Rattle.format.specs.Packet.{header_widths, header_texts, Segment, type_at, size_at, body_at, mission_widths, mission_texts, job_widths, job_texts, free_text_widths, free_text_texts}
 use Rattle.format.specs.Dwell.{mask_of, dwell_fields, target_count, targets_of, target_length, pair_of, is_same_pair, area_of}
 use Rattle.format.specs.Edition.{as_edition, is_older, is_hrr}
 use Rattle.format.specs.Sheet.{Record, body_length}
-use Rattle.format.specs.Answer.{numbers_of}
 use Rattle.format.specs.Rows.{Row, first_row, header_rows, mission_rows, target_rows, targets_rows, dwell_rows, hrr_rows, job_rows, text_rows, kept_rows, body_rows, segment_rows}
 use Rattle.format.specs.Reader.{Parsed, onward, parse, pairs_in, dwells_in, targets_in, reading_of, parsed, sheet, segments_answer, reading_answer, read}
 use Rattle.format.specs.Bound.{longest_sheet}

@@ -12,7 +12,7 @@ use Rattle.octets.specs.Layout.{pad, total, replaced, zeroed}
 use Rattle.octets.proofs.Layouts.{pad-same}
 use Rattle.mask.specs.Fields.{dwell_widths}
 use Rattle.format.specs.declared.Reading.{Reading}
-use Rattle.format.specs.declared.Check.TheVariants.{Passed}
+use Rattle.format.specs.Check.{Passed}
 use Rattle.format.specs.Packet.{Segment}
 use Rattle.format.specs.Dwell.{dwell_fields}
 use Rattle.format.specs.Edition.{is_older, is_hrr, shown, mark}

@@ -7,7 +7,7 @@ use mathlib.Core.List.{List, [], ◌∷◌}
 use lib.Dec.{eqb}
 use Rattle.mask.specs.Mask.{new_in_mask}
 use Rattle.format.specs.declared.Reading.{Reading}
-use Rattle.format.specs.declared.Check.TheVariants.{Passed}
+use Rattle.format.specs.Check.{Passed}
 use Rattle.format.specs.Packet.{type_at, body_at, J}
 use Rattle.format.specs.Dwell.{mask_of}
 use Rattle.format.specs.Edition.{is_older, is_hrr, is_new_mode}

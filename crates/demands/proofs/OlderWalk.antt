@@ -9,15 +9,12 @@ use lib.Dec.{eqb}
 use lib.ListN.{length, drop}
 use Rattle.mask.specs.Mask.{new_in_mask}
 use Rattle.format.specs.declared.Reading.{Reading}
-use Rattle.format.specs.declared.Check.{Check}
-use Rattle.format.specs.declared.Check.TheVariants.{Passed, Failed}
+use Rattle.format.specs.Check.{Check, Passed, Failed}
 use Rattle.format.specs.Packet.{Segment, size_at, type_at, body_at, J}
 use Rattle.format.specs.Dwell.{mask_of}
 use Rattle.format.specs.Edition.{is_older, is_new_mode}
 use Rattle.format.specs.Rows.{first_row, segment_rows}
-use Rattle.format.specs.declared.New.{New}
-use Rattle.format.specs.declared.New.TheVariants.{Nothing, Found}
-use Rattle.format.specs.New.{new_rows, first_new}
+use Rattle.format.specs.New.{New, Nothing, Found, new_rows, first_new}
 use Rattle.format.specs.Reader.{Parsed, onward, parse}
 use Rattle.format.proofs.Rows.{passed-not-failed}
 use Rattle.demands.proofs.OlderRows.{segment-new}

@@ -15,11 +15,9 @@ use Rattle.octets.proofs.Layouts.{pad-take, field-front, field-kept, length-zero
 use Rattle.text.specs.Text.{TextField, one_line, any_text, all, is_line, is_line_byte, text_fault}
 use Rattle.format.specs.declared.Settings.{Settings}
 use Rattle.format.specs.declared.Reading.{Reading}
-use Rattle.format.specs.declared.Check.{Check}
-use Rattle.format.specs.declared.Check.TheVariants.{Passed, Failed}
+use Rattle.format.specs.Check.{Check, Passed, Failed}
 use Rattle.format.specs.Packet.{Segment, s2, header_widths, mission_widths, job_widths, free_text_widths}
-use Rattle.format.specs.declared.Answer.TheVariants.{Refused}
-use Rattle.format.specs.Answer.{outcome, left_by}
+use Rattle.format.specs.Answer.{Refused, outcome, left_by}
 use Rattle.format.specs.Edition.{as_edition, is_older, shown, mark}
 use Rattle.format.specs.Reader.{reading_of, parsed, sheet}
 use Rattle.format.specs.Writer.{listed, is_headed, due, is_complete, is_accepted, reads_back, spell, sheet_rows, writer_rows, writer_answer, writing_answer, write}

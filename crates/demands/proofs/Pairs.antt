@@ -15,7 +15,7 @@ use Rattle.octets.proofs.Layouts.{length-zeroed, field-front, field-kept, same-v
 use Rattle.distinct.proofs.Laws.{same-members, none_twice}
 use Rattle.mask.specs.Fields.{dwell_widths}
 use Rattle.format.specs.declared.Reading.{Reading}
-use Rattle.format.specs.declared.Check.TheVariants.{Passed}
+use Rattle.format.specs.Check.{Passed}
 use Rattle.format.specs.Packet.{Segment}
 use Rattle.format.specs.Dwell.{dwell_fields, D, Pair, pair_of, is_same_pair}
 use Rattle.format.specs.Edition.{is_older, is_hrr, shown, mark}

@@ -17,7 +17,7 @@ use Rattle.mask.proofs.FullWidth.{length-full, announced-full}
 use Rattle.hrr.specs.Hrr.{hrr_mask, scatterer_widths}
 use Rattle.format.specs.declared.Reading.{Reading}
 use Rattle.format.specs.declared.Area.{Area}
-use Rattle.format.specs.declared.Check.TheVariants.{Passed}
+use Rattle.format.specs.Check.{Passed}
 use Rattle.format.specs.Packet.{Segment}
 use Rattle.format.specs.Dwell.{mask_of, dwell_fields, area_of, target_count, targets_of, target_length, target_fields}
 use Rattle.format.specs.Edition.{is_older}

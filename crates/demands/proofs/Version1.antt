@@ -6,12 +6,11 @@ use mathlib.Core.Bool.{false}
 use mathlib.Core.List.{List, [], ◌∷◌, ◌++◌}
 use lib.ListN.{length, drop}
 use Rattle.format.specs.declared.Reading.{Reading}
-use Rattle.format.specs.declared.Check.{Check}
-use Rattle.format.specs.declared.Answer.{Answer}
+use Rattle.format.specs.Check.{Check}
+use Rattle.format.specs.Answer.{Answer, outcome, left_by}
 use Rattle.format.specs.Packet.{Segment, type_at, size_at, body_at, version, segment_at}
 use Rattle.format.specs.Edition.{as_edition, is_older, is_hrr, shown, mark}
 use Rattle.format.specs.Sheet.{Record, header_record, dwell_record, dwell_records, job_records, segment_records, packet_records, record_bytes}
-use Rattle.format.specs.Answer.{outcome, left_by}
 use Rattle.format.specs.Rows.{first_row, dwell_rows, job_rows, body_rows, segment_rows}
 use Rattle.format.specs.Reader.{Parsed, onward, parse, reading_of, parsed, set_out_of, sheet, read}
 use Rattle.demands.specs.Demands.{Version1}

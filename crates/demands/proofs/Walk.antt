@@ -7,8 +7,7 @@ use mathlib.Core.Path.{◌≡◌, refl, subst}
 use mathlib.Core.List.{List, [], ◌∷◌, ◌++◌, append-nil, append_assoc}
 use lib.ListN.{length, drop, length-drop}
 use Rattle.format.specs.declared.Reading.{Reading}
-use Rattle.format.specs.declared.Check.{Check}
-use Rattle.format.specs.declared.Check.TheVariants.{Passed, Failed}
+use Rattle.format.specs.Check.{Check, Passed, Failed}
 use Rattle.format.specs.Packet.{Segment, size_at, segment_at}
 use Rattle.format.specs.Rows.{first_row, segment_rows}
 use Rattle.format.specs.Reader.{Parsed, onward, parse}

@@ -15,13 +15,10 @@ use Rattle.octets.specs.Octets.{Bytes}
 use Rattle.octets.specs.Layout.{over}
 use Rattle.octets.proofs.Layouts.{pad-take}
 use Rattle.format.specs.declared.Settings.{Settings}
-use Rattle.format.specs.declared.Check.{Check}
-use Rattle.format.specs.declared.Check.TheVariants.{Passed, Failed}
-use Rattle.format.specs.declared.Answer.{Answer}
-use Rattle.format.specs.declared.Answer.TheVariants.{Accepted, Refused}
+use Rattle.format.specs.Check.{Check, Passed, Failed}
+use Rattle.format.specs.Answer.{Answer, Accepted, Refused, Outcome, outcome, left_by}
 use Rattle.format.specs.Edition.{as_edition, is_older}
 use Rattle.format.specs.Sheet.{body_length, record_of, header_record, packet_records}
-use Rattle.format.specs.Answer.{Outcome, outcome, left_by}
 use Rattle.format.specs.Rows.{first_row}
 use Rattle.format.specs.Reader.{parsed, reading_of, dwells_in, targets_in, sheet, reading_answer, read}
 use Rattle.format.specs.Writer.{is_headed, called_for, is_complete, Regrouped, segments_bytes, spell_records, spell, is_accepted, is_same, reads_back, sheet_rows, writer_rows, writer_answer, writing_answer, write}

@@ -9,17 +9,14 @@ use Rattle.octets.specs.Layout.{over}
 use Rattle.distinct.specs.Distinct.{is_among, without_repeats, has_repeats}
 use Rattle.format.specs.Edition.{as_edition, mark}
 use Rattle.format.specs.declared.Settings.{Settings}
-use Rattle.format.specs.declared.Check.TheVariants.{Passed, Failed}
-use Rattle.format.specs.declared.Answer.TheVariants.{Accepted, Refused}
+use Rattle.format.specs.Check.{Passed, Failed}
+use Rattle.format.specs.Answer.{Accepted, Refused, Outcome, outcome}
 use Rattle.format.specs.Packet.{version, Segment}
 use Rattle.format.specs.Dwell.{Pair, is_same_pair}
 use Rattle.format.specs.Sheet.{Record, piece_count, pieces_of, record_bytes}
 use Rattle.format.specs.Lengths.{record_length}
-use Rattle.format.specs.Answer.{Outcome, outcome}
 use Rattle.format.specs.Rows.{is_naming, first_row}
-use Rattle.format.specs.declared.New.{New}
-use Rattle.format.specs.declared.New.TheVariants.{Nothing, Found}
-use Rattle.format.specs.New.{first_new}
+use Rattle.format.specs.New.{New, Nothing, Found, first_new}
 use Rattle.format.specs.Reader.{dwells_in, targets_in, reading_of, parsed, set_out_of, sheet, read}
 use Rattle.format.specs.Bound.{formula, sheet_bound, EnoughFor}
 use Rattle.format.specs.Writer.{listed, is_accepted, sheet_rows, writer_rows, spell, writer_answer, write}

@@ -4,7 +4,7 @@
 use Rattle.std.specs.Prelude.{ℕ, suc, ◌≤◌, ◌<◌, ◌≡◌, List, [], ◌∷◌, ◌++◌, length, drop}
 use Rattle.format.specs.declared.Settings.{Settings}
 use Rattle.format.specs.declared.Reading.{Reading}
-use Rattle.format.specs.declared.Check.TheVariants.{Passed, Failed}
+use Rattle.format.specs.Check.{Passed, Failed}
 use Rattle.format.specs.Packet.{Segment, size_at, segment_at}
 use Rattle.format.specs.Rows.{first_row, header_rows, segment_rows}
 use Rattle.format.specs.Reader.{reading_of, set_out_of}

@@ -4,11 +4,10 @@ use Rattle.std.specs.Prelude.{ℕ, ◌≡◌, Bool, true, false, List, [], ◌�
 use Rattle.octets.specs.Octets.{bytes}
 use Rattle.distinct.specs.Distinct.{without_repeats}
 use Rattle.format.specs.Edition.{as_edition}
-use Rattle.format.specs.declared.Answer.TheVariants.{Accepted}
+use Rattle.format.specs.Answer.{Accepted}
 use Rattle.format.specs.Dwell.{is_same_pair}
 use Rattle.format.specs.Samples.{zeros, version3, dwell, d2to9, d24to27, numbered, mission, job, free_text, shortest_hrr, magnitudes}
-use Rattle.format.specs.declared.New.TheVariants.{Nothing, Found}
-use Rattle.format.specs.New.{first_new}
+use Rattle.format.specs.New.{Nothing, Found, first_new}
 use Rattle.format.specs.Reader.{parsed, sheet, read}
 use Rattle.format.specs.Writer.{listed}
 use Rattle.demands.specs.Filled.{filled_in}

@@ -13,7 +13,7 @@ use Rattle.octets.proofs.Parts.{tail-is}
 use Rattle.mask.specs.Fields.{announced_length, dwell_widths, dwell_size}
 use Rattle.mask.specs.InnerFields.{Required}
 use Rattle.format.specs.declared.Area.{Area}
-use Rattle.format.specs.declared.Check.TheVariants.{Passed}
+use Rattle.format.specs.Check.{Passed}
 use Rattle.format.specs.Packet.{s2}
 use Rattle.format.specs.Dwell.{mask_of, dwell_fields, target_count, target_length, targets_of, area_of}
 use Rattle.format.specs.Rows.{first_row, targets_rows}

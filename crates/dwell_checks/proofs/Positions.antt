@@ -10,7 +10,7 @@ use lib.Signed.{lt_z}
 use Rattle.mask.specs.Fields.{announced}
 use Rattle.position.specs.Position.{latitude_sum, longitude_sum, is_latitude}
 use Rattle.format.specs.declared.Area.{Area}
-use Rattle.format.specs.declared.Check.TheVariants.{Passed, Failed}
+use Rattle.format.specs.Check.{Passed, Failed}
 use Rattle.format.specs.Dwell.{D, D±, D32, D32±, area_of, latitude, longitude, target_fields}
 use Rattle.format.specs.Rows.{first_row, target_rows}
 

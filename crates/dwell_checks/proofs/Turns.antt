@@ -11,8 +11,7 @@ use lib.Seq.{drop-drop}
 use borrow.Rule.Slice.PartMut.{mid_of}
 use Rattle.octets.proofs.Parts.{tail-is}
 use Rattle.format.specs.declared.Area.{Area}
-use Rattle.format.specs.declared.Check.{Check}
-use Rattle.format.specs.declared.Check.TheVariants.{Passed, Failed}
+use Rattle.format.specs.Check.{Check, Passed, Failed}
 use Rattle.format.specs.Dwell.{target_length}
 use Rattle.format.specs.Rows.{first_row, target_rows, targets_rows}
 use Rattle.format.proofs.Rows.{or_else, first-append}

@@ -23,8 +23,7 @@ use Rattle.position.specs.Position.{is_latitude}
 use Rattle.position.specs.InnerAlways.{is_always_latitude}
 use Rattle.position.proofs.Range.{always-latitude}
 use Rattle.format.specs.declared.Area.{Area}
-use Rattle.format.specs.declared.Check.{Check}
-use Rattle.format.specs.declared.Check.TheVariants.{Passed}
+use Rattle.format.specs.Check.{Check, Passed}
 use Rattle.format.specs.Dwell.{target_fields, latitude, D32±}
 use Rattle.format.specs.Rows.{first_row, target_rows, targets_rows}
 use Rattle.dwell_checks.specs.InnerPlan.{is_inside}

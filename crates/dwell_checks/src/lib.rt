@@ -8,10 +8,11 @@ ghost use Rattle.mask.specs.InnerFields.{widths, Required};
 ghost use Rattle.position.specs.Position.{is_latitude};
 ghost use Rattle.format.specs.declared.Reading.{Reading};
 ghost use Rattle.format.specs.Dwell.{mask_of, dwell_fields, target_count, target_length, target_fields, area_of, latitude, longitude};
+ghost use Rattle.format.specs.Check.{check_of};
 ghost use Rattle.format.specs.Rows.{first_row, target_rows, targets_rows, dwell_rows};
 ghost use Rattle.dwell_checks.specs.InnerPlan.{Headed, d24_at, Bounded, Holds, plan_of, is_inside, number_if};
 
-use format::Check;
+use format::Fault;
 
 // What a walk over a dwell needs of it: the mask, where the targets start in the body, the bytes of each, how many they are, and what their
 // positions take from the dwell. It is worked out once for each walk, and handed on. With the area first, the loop over targets is fastest.
@@ -29,7 +30,11 @@ fn width_if(mask: u64, n: usize, w: u8) -> usize
     requires { (2 ≤ n) × (n ≤ 65) }
     ensures { (result ≡ taken mask n w) × (result < 256) }
 {
-    if mask::has(mask, n) { w as usize } else { 0 }
+    if mask::has(mask, n) {
+        usize::from(w)
+    } else {
+        0
+    }
 }
 
 // The widths of D32.1 to D32.18.
@@ -49,6 +54,7 @@ fn span(mask: u64, first: usize, last: usize) -> usize
 }
 
 // The number at `at` where the mask announces field n, and 0 where it does not, as on the sheet.
+// Kept: one for each type. A trait of them would take an impl for each, and laws of what its bytes and zero bytes spell: no plainer.
 fn u8_if(b: &[u8], mask: u64, n: usize, at: usize) -> u8
     requires { (2 ≤ n) × (n ≤ 65) × (announced mask n ≡ true → at + 1 ≤ length b.now) }
     ensures { result ≡ number_if mask n 1 at b.now }
@@ -186,11 +192,7 @@ fn is_always_latitude(mask: u64, area: format::Area) -> bool
     requires { Bounded area }
     ensures { result ≡ is_inside mask area }
 {
-    if mask::has(mask, 33) {
-        true
-    } else {
-        position::is_always_latitude(area.d10, area.d24)
-    }
+    mask::has(mask, 33) || position::is_always_latitude(area.d10, area.d24)
 }
 
 // Whether row 14 applies to the target at the front of t. Inside says that it can apply to none, and then the bytes are not looked at.
@@ -198,113 +200,104 @@ fn is_out(t: &[u8], mask: u64, area: format::Area, inside: bool) -> bool
     requires { (target_length mask ≤ length t.now) × Bounded area × (inside ≡ is_inside mask area) }
     ensures { result ≡ not (is_latitude (latitude mask area (target_fields mask t.now))) }
 {
-    if inside {
-        false
-    } else {
-        !position::is_latitude(latitude_of(t, mask, area))
-    }
+    !inside && !position::is_latitude(latitude_of(t, mask, area))
 }
 
 // The rows of the target at the front of t: 13 in field order, and then 14.
-fn target_check(t: &[u8], mask: u64, area: format::Area, inside: bool) -> Check
+fn target_check(t: &[u8], mask: u64, area: format::Area, inside: bool) -> Result<(), Fault>
     requires { (target_length mask ≤ length t.now) × Bounded area × (inside ≡ is_inside mask area) }
-    ensures { result ≡ first_row (target_rows mask area t.now) }
+    ensures { check_of result ≡ first_row (target_rows mask area t.now) }
 {
     let d32_6 = span(mask, 32, 36);
     let d32_11 = d32_6 + span(mask, 37, 41);
     let d32_15 = d32_11 + span(mask, 42, 45);
     if i16_if(t, mask, 37, d32_6) < -1000 {
-        return Check::Failed(13, 37);
+        return Err(Fault::naming(13, 37));
     }
     if 100 < u8_if(t, mask, 42, d32_11) {
-        return Check::Failed(13, 42);
+        return Err(Fault::naming(13, 42));
     }
     if 5000 < u16_if(t, mask, 46, d32_15) {
-        return Check::Failed(13, 46);
+        return Err(Fault::naming(13, 46));
     }
     if is_out(t, mask, area, inside) {
-        return Check::Failed(14, 35);
+        return Err(Fault::naming(14, 35));
     }
-    Check::Passed
+    Ok(())
 }
 
 // D32.6, D32.11 and D32.15, the fields that have a bound.
 const BOUNDED: u64 = 0x0000_0000_1088_0000;
 
 // The rows of the plan's targets, which stand from t on, target by target.
-fn each_check(t: &[u8], p: Plan, inside: bool) -> Check
+fn each_check(t: &[u8], p: Plan, inside: bool) -> Result<(), Fault>
     requires { Holds p p.count t.now × (inside ≡ is_inside p.mask p.area) }
-    ensures { result ≡ first_row (targets_rows p.mask p.area p.count t.now) }
+    ensures { check_of result ≡ first_row (targets_rows p.mask p.area p.count t.now) }
 {
     let area = p.area;
+    // Kept: no `chunks`. Where there are no targets the mask may give them no bytes, and chunks of none are not allowed.
     let mut at: usize = 0;
     for i in 0..p.count {
-        match target_check(&t[at..], p.mask, area, inside) {
-            Check::Failed(number, field) => {
-                return Check::Failed(number, field);
-            }
-            Check::Passed => {
-                at += p.each;
-            }
-        }
+        target_check(&t[at..], p.mask, area, inside)?;
+        at += p.each;
     }
-    Check::Passed
+    Ok(())
 }
 
 // The same, without a look at the targets where none can be at fault: row 14 can apply to none, and the mask announces none of the fields that
 // have a bound.
-fn targets_check(t: &[u8], p: Plan) -> Check
+fn targets_check(t: &[u8], p: Plan) -> Result<(), Fault>
     requires { Holds p p.count t.now }
-    ensures { result ≡ first_row (targets_rows p.mask p.area p.count t.now) }
+    ensures { check_of result ≡ first_row (targets_rows p.mask p.area p.count t.now) }
 {
     let area = p.area;
     let inside = is_always_latitude(p.mask, area);
     if inside && p.mask & BOUNDED == 0 {
-        return Check::Passed;
+        return Ok(());
     }
     each_check(t, p, inside)
 }
 
 // The rows 13 and 14 of a dwell, whose body b has this plan, and its targets.
-fn dwell_values(b: &[u8], p: Plan) -> Check
+fn dwell_values(b: &[u8], p: Plan) -> Result<(), Fault>
     requires { Required (mask_of b.now) × (p ≡ plan_of b.now) × Bounded p.area × (p.start + p.count * p.each ≤ length b.now) }
-    ensures { (r : Reading) → result ≡ first_row (drop 4 (dwell_rows r b.now)) }
+    ensures { (r : Reading) → check_of result ≡ first_row (drop 4 (dwell_rows r b.now)) }
 {
     // D4, which stands behind the mask and D2 and D3.
     if 1 < b[12] {
-        return Check::Failed(13, 4);
+        return Err(Fault::naming(13, 4));
     }
     if 0 < p.count && !mask::is_placed(p.mask) {
-        return Check::Failed(13, 5);
+        return Err(Fault::naming(13, 5));
     }
     let start = p.start;
     targets_check(&b[start..], p)
 }
 
-pub fn dwell_check(r: format::Reading, b: &[u8]) -> Check
-    ensures { result ≡ first_row (dwell_rows r b.now) }
+pub fn dwell_check(r: format::Reading, b: &[u8]) -> Result<(), Fault>
+    ensures { check_of result ≡ first_row (dwell_rows r b.now) }
 {
     if b.len() < 8 {
-        return Check::Failed(9, 0);
+        return Err(Fault::row(9));
     }
     let mask = octets::get_u64(b, 0);
     let fault = mask::lowest_fault(mask, r.version);
     if fault != 0 {
-        return Check::Failed(11, fault as usize);
+        return Err(Fault::naming(11, fault as usize));
     }
     let new = editions::new_field(r, mask);
     if new != 0 {
-        return Check::Failed(15, new as usize);
+        return Err(Fault::naming(15, new as usize));
     }
     let at = 8 + mask::length_before_d24(mask);
     let start = at + mask::length_from_d24(mask);
     if b.len() < start {
-        return Check::Failed(12, 0);
+        return Err(Fault::row(12));
     }
     let count = target_count(b) as usize;
     let each = mask::target_length(mask);
     if b.len() != start + count * each {
-        return Check::Failed(12, 0);
+        return Err(Fault::row(12));
     }
     dwell_values(b, plan_by(b, mask, at, start, each, count))
 }

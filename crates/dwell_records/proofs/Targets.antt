@@ -19,7 +19,7 @@ use Rattle.mask.specs.Fields.{full_fields, target_widths}
 use Rattle.mask.proofs.FullWidth.{length-full}
 use Rattle.position.specs.Position.{is_latitude, latitude_micro, longitude_micro}
 use Rattle.format.specs.declared.Area.{Area}
-use Rattle.format.specs.declared.Check.TheVariants.{Passed}
+use Rattle.format.specs.Check.{Passed}
 use Rattle.format.specs.Dwell.{target_fields, target_length, latitude, longitude}
 use Rattle.format.specs.Sheet.{body_length, target_record, target_records, record_bytes}
 use Rattle.format.specs.Lengths.{record_length}

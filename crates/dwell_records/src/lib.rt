@@ -5,7 +5,7 @@ ghost use Rattle.std.specs.Prelude.{◌≡◌, true, cond, [], ◌∷◌, ◌+�
 ghost use Rattle.std.proofs.lemmas.List.Edits.{sets};
 ghost use Rattle.octets.specs.Layout.{pad};
 ghost use Rattle.position.specs.Position.{is_latitude};
-ghost use Rattle.format.specs.declared.Check.TheVariants.{Passed};
+ghost use Rattle.format.specs.Check.{Passed};
 ghost use Rattle.format.specs.Dwell.{target_count, target_length, target_fields, latitude};
 ghost use Rattle.format.specs.Edition.{is_older};
 ghost use Rattle.format.specs.Sheet.{dwell_record, target_record, target_records, dwell_records, record_bytes};
@@ -28,7 +28,7 @@ fn withhold(r: format::Reading, o: &mut [u8], q: usize)
     ensures { o.new ≡ cond (is_older r) (sets o.old q (pad 2 [])) o.old }
 {
     if editions::is_older(r) {
-        copies::clear2(o, q);
+        copies::clear(o, q, 2);
     }
 }
 
@@ -37,7 +37,7 @@ pub fn dwell_record(r: format::Reading, b: &[u8], mask: u64, o: &mut [u8])
     ensures { o.new ≡ sets o.old 0 (record_bytes (dwell_record r b.now ∷ [])) }
 {
     records::put_byte(o, 0, format::DwellRecord::KIND);
-    copies::copy8(b, 0, o, 1);
+    copies::copy::<8>(b, 0, o, 1);
     unpack_dwell::dwell_fields(b, 8, mask, o, 9);
     withhold(r, o, D27);
     records::put_byte(o, MARK, editions::mark_of(r));
@@ -58,6 +58,7 @@ fn target_record(t: &[u8], mask: u64, area: format::Area, o: &mut [u8])
 }
 
 // So many targets of this plan from t on, to which no row applies.
+// Kept: a loop that counts. A mask that announces no field of targets makes them of no bytes, and `chunks_exact` asks for one at least.
 pub fn target_records(t: &[u8], p: dwell_checks::Plan, count: usize, o: &mut [u8])
     requires { Holds p count t.now × (count * record_length 4 ≤ length o.old) × (first_row (targets_rows p.mask p.area count t.now) ≡ Passed) }
     ensures { o.new ≡ sets o.old 0 (record_bytes (target_records p.mask p.area count t.now)) }

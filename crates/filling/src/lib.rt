@@ -17,12 +17,12 @@ fn fill_record(kind: u8, older: &mut [u8], newer: &[u8])
     ensures { older.new ≡ (filled_record (record { kind = kind; body = older.old }) (record { kind = kind; body = newer.now })).body }
 {
     if kind == DwellRecord::KIND {
-        copies::copy2(newer, DwellRecord::D27, older, DwellRecord::D27);
+        copies::copy::<2>(newer, DwellRecord::D27, older, DwellRecord::D27);
         older[DwellRecord::MARK] = SHOWN;
         return;
     }
     if kind == JobRecord::KIND {
-        copies::copy1(newer, JobRecord::J26, older, JobRecord::J26);
+        copies::copy::<1>(newer, JobRecord::J26, older, JobRecord::J26);
         older[JobRecord::MARK] = SHOWN;
     }
 }

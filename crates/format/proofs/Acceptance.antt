@@ -12,12 +12,9 @@ use lib.ListN.{length, get_or}
 use Rattle.octets.specs.Layout.{over}
 use Rattle.octets.specs.Octets.{between}
 use Rattle.format.specs.declared.Settings.{Settings}
-use Rattle.format.specs.declared.Check.{Check}
-use Rattle.format.specs.declared.Check.TheVariants.{Passed, Failed}
-use Rattle.format.specs.declared.Answer.{Answer}
-use Rattle.format.specs.declared.Answer.TheVariants.{Accepted, Refused}
+use Rattle.format.specs.Check.{Check, Passed, Failed}
+use Rattle.format.specs.Answer.{Answer, Accepted, Refused, outcome, left_by}
 use Rattle.format.specs.Packet.{is_p1}
-use Rattle.format.specs.Answer.{outcome, left_by}
 use Rattle.format.specs.Rows.{first_row, header_rows}
 use Rattle.format.specs.Reader.{parsed, sheet, dwells_in, targets_in, segments_answer, reading_answer, read}
 use Rattle.format.proofs.Rows.{first_passes, neither}

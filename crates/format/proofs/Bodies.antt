@@ -16,7 +16,7 @@ use Rattle.octets.proofs.Layouts.{pad-same}
 use Rattle.mask.specs.Fields.{dwell_widths}
 use Rattle.mask.proofs.FullWidth.{length-full}
 use Rattle.format.specs.declared.Reading.{Reading}
-use Rattle.format.specs.declared.Check.TheVariants.{Passed}
+use Rattle.format.specs.Check.{Passed}
 use Rattle.format.specs.Packet.{s2, job_widths}
 use Rattle.format.specs.Dwell.{mask_of, dwell_fields}
 use Rattle.format.specs.Edition.{is_older, shown, mark}

@@ -9,7 +9,7 @@ use borrow.Author.Tests.{ne_eqb}
 use lib.ListN.{length}
 use lib.Seq.{sets}
 use Rattle.format.specs.declared.Reading.{Reading}
-use Rattle.format.specs.declared.Check.TheVariants.{Passed}
+use Rattle.format.specs.Check.{Passed}
 use Rattle.format.specs.Edition.{is_hrr}
 use Rattle.format.specs.Sheet.{opaque_records, segment_records, record_bytes}
 use Rattle.format.specs.Rows.{first_row, body_rows}

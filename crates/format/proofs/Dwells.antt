@@ -12,7 +12,7 @@ use Rattle.mask.specs.Fields.{announced, announced_length, dwell_size, dwell_wid
 use Rattle.mask.specs.Mask.{is_required}
 use Rattle.mask.proofs.Unfaulted.{required-announced}
 use Rattle.format.specs.declared.Reading.{Reading}
-use Rattle.format.specs.declared.Check.TheVariants.{Passed}
+use Rattle.format.specs.Check.{Passed}
 use Rattle.format.specs.Packet.{s2}
 use Rattle.format.specs.Dwell.{mask_of, dwell_fields, target_count, targets_of, target_length, area_of}
 use Rattle.format.specs.Rows.{first_row, targets_rows, dwell_rows}

@@ -7,7 +7,7 @@ use mathlib.Core.List.{List, [], ◌∷◌, ◌++◌}
 use lib.ListN.{length, get_or, take, drop, length-drop}
 use lib.Seq.{drop-drop}
 use Rattle.format.specs.declared.Reading.{Reading}
-use Rattle.format.specs.declared.Check.TheVariants.{Passed}
+use Rattle.format.specs.Check.{Passed}
 use Rattle.format.specs.Packet.{type_at, size_at, body_at, segment_at}
 use Rattle.format.specs.Sheet.{segment_records, packet_records, record_bytes}
 use Rattle.format.specs.Rows.{first_row, body_rows, segment_rows}

@@ -19,7 +19,7 @@ use Rattle.mask.specs.Mask.{is_in}
 use Rattle.mask.proofs.FullWidth.{length-full, announced-full}
 use Rattle.hrr.specs.Hrr.{hrr_mask, mandatory, all_set, is_hrr_mask, hrr_widths, hrr_fields, H, scatterer_count, index_width, scatterer_widths, widened, narrowed, hrr_size, is_hrr_size}
 use Rattle.hrr.proofs.Words.{each_set}
-use Rattle.format.specs.declared.Check.TheVariants.{Passed}
+use Rattle.format.specs.Check.{Passed}
 use Rattle.format.specs.Packet.{s2}
 use Rattle.format.specs.Sheet.{Record, body_length, record_of, hrr_record, scatterer_record}
 use Rattle.format.specs.Rows.{first_row, hrr_rows}

@@ -15,8 +15,7 @@ use Rattle.mask.specs.Mask.{is_placed}
 use Rattle.hrr.specs.Hrr.{hrr_mask, hrr_fields, scatterer_count}
 use Rattle.format.specs.declared.Settings.{Settings}
 use Rattle.format.specs.declared.Reading.{Reading}
-use Rattle.format.specs.declared.Check.{Check}
-use Rattle.format.specs.declared.Check.TheVariants.{Passed, Failed}
+use Rattle.format.specs.Check.{Check, Passed, Failed}
 use Rattle.format.specs.Packet.{Segment, type_at, size_at, body_at}
 use Rattle.format.specs.Dwell.{mask_of, target_count, target_length}
 use Rattle.format.specs.Edition.{is_hrr}

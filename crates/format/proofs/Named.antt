@@ -10,8 +10,7 @@ use lib.ListN.{drop}
 use Rattle.format.specs.declared.Settings.{Settings}
 use Rattle.format.specs.declared.Reading.{Reading}
 use Rattle.format.specs.declared.Area.{Area}
-use Rattle.format.specs.declared.Check.{Check}
-use Rattle.format.specs.declared.Check.TheVariants.{Failed}
+use Rattle.format.specs.Check.{Check, Failed}
 use Rattle.format.specs.Packet.{type_at, body_at}
 use Rattle.format.specs.Dwell.{mask_of, dwell_fields, target_count, targets_of, target_length, area_of}
 use Rattle.format.specs.Edition.{is_hrr}

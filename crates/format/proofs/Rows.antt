@@ -2,14 +2,17 @@
 -- Assumes nothing.
 use Prim.Native.Nat.{ℕ, ◌≤◌}
 use native.Mathlib.Omega.{arith}
-use mathlib.Core.Path.{◌≡◌, refl, sym, ◌∙◌}
+use mathlib.Core.Path.{◌≡◌, refl, sym, ap, ◌∙◌, subst}
+use Rattle.std.specs.Prelude.{Result, Ok, Err}
+use Rattle.std.specs.Result.{IsErrAnd, MatchResult, is_ok, result_unwrap_or}
+use Rattle.std.proofs.lemmas.Result.{err_from_is_err_and}
+use Rattle.format.specs.declared.Fault.{Fault}
 use mathlib.Core.Bool.{Bool, true, false, cond, ◌&&◌, ◌||◌, true≢false}
 use mathlib.Core.List.{List, [], ◌∷◌, ◌++◌}
 use borrow.Author.Tests.{ltb-false, not-false}
 use lib.ListN.{length}
 use Rattle.format.specs.declared.Reading.{Reading}
-use Rattle.format.specs.declared.Check.{Check}
-use Rattle.format.specs.declared.Check.TheVariants.{Passed, Failed}
+use Rattle.format.specs.Check.{Check, Passed, Failed, check_of}
 use Rattle.format.specs.Packet.{type_at, size_at, body_at, is_known}
 use Rattle.format.specs.Rows.{Row, first_row, segment_rows, body_rows}
 
@@ -57,6 +60,30 @@ both-pass rs qs e = go (first_row rs) refl (sym (first-append rs qs) ∙ e)
     go : (c : Check) → first_row rs ≡ c → or_else c (first_row qs) ≡ Passed → (first_row rs ≡ Passed) × (first_row qs ≡ Passed)
     go Passed h e = (h, e)
     go (Failed number field) h e = passed-not-failed number field (sym e)
+
+-- where no row of the first list applies, those of the second decide; and one that does is the first of both
+pub rows-passed : (rs qs : List Row) → Passed ≡ first_row rs → first_row (rs ++ qs) ≡ first_row qs
+rows-passed rs qs e = first-append rs qs ∙ ap (λ (c : Check). or_else c (first_row qs)) (sym e)
+
+pub rows-failed : (rs qs : List Row) {number field : ℕ} → Failed number field ≡ first_row rs → Failed number field ≡ first_row (rs ++ qs)
+rows-failed rs qs e = sym (first-append rs qs ∙ ap (λ (c : Check). or_else c (first_row qs)) (sym e))
+
+-- what `?` hands on is the fault that was found
+pub handed-on : (r : Result (Unit {0}) Fault) {f : Fault} → IsErrAnd r (λ e. e ≡ f) → check_of r ≡ Failed f.number f.field
+handed-on r e = let (x, q, h) = err_from_is_err_and r e in ap check_of (q ∙ ap Err h)
+
+-- what `map_err` leaves as it was, and what it makes of an error
+module _ {T E D : Type 0} (Q : E → D → Type 0) where
+  abbrev pub Mapped : Result T E → Result T D → Type 0
+  Mapped r s = MatchResult r (λ x. s ≡ Ok x) (λ e. IsErrAnd s (Q e))
+
+  pub mapped-ok : (r : Result T E) (s : Result T D) (x : T) → Mapped r s → s ≡ Ok x → r ≡ Ok x
+  mapped-ok (Ok y) s x h e = ap Ok (ap (λ (t : Result T D). result_unwrap_or t y) (sym h ∙ e))
+  mapped-ok (Err y) s x h e = absurd (subst (λ (t : Result T D). IsErrAnd t (Q y)) e h)
+
+  pub mapped-err : (r : Result T E) (s : Result T D) (d : D) → Mapped r s → s ≡ Err d → (e : E) × (r ≡ Err e) × Q e d
+  mapped-err (Ok y) s d h e = absurd (true≢false (ap is_ok (sym h ∙ e)))
+  mapped-err (Err y) s d h e = (y, refl, subst (λ (t : Result T D). IsErrAnd t (Q y)) e h)
 
 -- what holds of two things holds of the one that a test picks
 pub either : {A : Type 0} (P : A → Type 0) (t : Bool) {x y : A} → P x → P y → P (cond t x y)

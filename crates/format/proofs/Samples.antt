@@ -15,7 +15,7 @@ use Rattle.octets.specs.Layout.{total, field, value}
 use Rattle.octets.proofs.Laws.{be-bytes}
 use Rattle.text.specs.Text.{is_line_byte, is_text_byte, all, text_fault}
 use Rattle.format.specs.declared.Reading.{Reading}
-use Rattle.format.specs.declared.Check.TheVariants.{Passed}
+use Rattle.format.specs.Check.{Passed}
 use Rattle.format.specs.Packet.{header_widths, header_texts, P, is_p1, version, type_at, size_at, body_at, segment_at, s2, segment_bytes, is_known}
 use Rattle.format.specs.Edition.{as_edition}
 use Rattle.format.specs.Rows.{first_row, header_rows, body_rows, segment_rows}

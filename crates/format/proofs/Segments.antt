@@ -11,8 +11,7 @@ use lib.Seq.{length-take-le, take-take, get_or-drop}
 use Rattle.octets.specs.Octets.{be, bytes, Bytes}
 use Rattle.octets.proofs.Laws.{bytes-be}
 use Rattle.format.specs.declared.Reading.{Reading}
-use Rattle.format.specs.declared.Check.{Check}
-use Rattle.format.specs.declared.Check.TheVariants.{Passed, Failed}
+use Rattle.format.specs.Check.{Check, Passed, Failed}
 use Rattle.format.specs.Packet.{Segment, type_at, size_at, body_at, segment_bytes}
 use Rattle.format.specs.Edition.{is_hrr}
 use Rattle.format.specs.Sheet.{Record, mission_records, dwell_records, hrr_records, job_records, text_records, test_records, location_records, opaque_records, segment_records}

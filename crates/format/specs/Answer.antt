@@ -1,9 +1,19 @@
 -- The answer of a reading or of the writer in document 01's numbers ('Where each number is given').
 -- Assumes nothing.
-use Rattle.std.specs.Prelude.{ℕ, List, [], ◌∷◌}
+use Rattle.std.specs.Prelude.{ℕ, List, [], ◌∷◌, Result, Ok, Err}
 use Rattle.octets.specs.Layout.{over}
-use Rattle.format.specs.declared.Answer.{Answer}
-use Rattle.format.specs.declared.Answer.TheVariants.{Accepted, Refused}
+use Rattle.format.specs.declared.Counts.{Counts}
+use Rattle.format.specs.declared.Refusal.{Refusal}
+
+-- accepted with so many segments, dwells and targets, and the length of the sheet or of the packet; or refused by a number, a segment and a field
+pub data Answer : Type 0 where
+  Accepted : ℕ → ℕ → ℕ → ℕ → Answer
+  Refused : ℕ → ℕ → ℕ → Answer
+
+-- that of a call of the code: each of its values is one answer, and no two are the same
+abbrev pub answer_of : Result Counts Refusal → Answer
+answer_of (Ok c) = Accepted c.segments c.dwells c.targets c.length
+answer_of (Err f) = Refused f.number f.segment f.field
 
 -- number, segment, field, segments, dwells, targets, length. "Counts and length are 0 in a refusal. Accepted: number, segment and field 0"
 unfoldable pub numbers_of : Answer → List ℕ

@@ -3,7 +3,7 @@
 use Rattle.std.specs.Prelude.{ℕ, ◌+◌, ◌-◌, ◌*◌, ◌/◌, ◌≤◌, ◌≡◌, cond, List, length}
 use Rattle.octets.specs.Octets.{between}
 use Rattle.format.specs.declared.Settings.{Settings}
-use Rattle.format.specs.declared.Answer.TheVariants.{Refused}
+use Rattle.format.specs.Answer.{Refused}
 use Rattle.format.specs.Lengths.{record_length}
 use Rattle.format.specs.Reader.{read}
 

@@ -4,6 +4,7 @@ pub mod Edition
 pub mod Sheet
 pub mod Lengths
 pub mod Answer
+pub mod Check
 pub mod Rows
 pub mod New
 pub mod Reader

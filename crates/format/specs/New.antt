@@ -1,14 +1,23 @@
 -- The four things that are new in Edition 3 (document 01, 'Edition 1 reading of a version 3 packet').
 -- Assumes nothing.
-use Rattle.std.specs.Prelude.{ℕ, suc, ◌&&◌, cond, List, [], ◌∷◌, eqb}
+use Rattle.std.specs.Prelude.{ℕ, suc, ◌&&◌, cond, List, [], ◌∷◌, eqb, Option, None, Some}
 use Rattle.mask.specs.Mask.{new_in_mask}
-use Rattle.format.specs.declared.Check.TheVariants.{Passed, Failed}
-use Rattle.format.specs.declared.New.{New}
-use Rattle.format.specs.declared.New.TheVariants.{Nothing, Found}
+use Rattle.format.specs.Check.{Passed, Failed}
+use Rattle.format.specs.declared.NewThing.{NewThing}
 use Rattle.format.specs.Packet.{Segment, J}
 use Rattle.format.specs.Dwell.{mask_of}
 use Rattle.format.specs.Edition.{is_new_mode}
 use Rattle.format.specs.Rows.{Row, row, naming, first_row}
+
+-- nothing, or what is found first: the number of its segment, and its field
+pub data New : Type 0 where
+  Nothing : New
+  Found : ℕ → ℕ → New
+
+-- that of a search by the code: each of its values is one of these, and no two are the same
+abbrev pub new_of : Option NewThing → New
+new_of None = Nothing
+new_of (Some t) = Found t.segment t.field
 
 -- "Four things are new in Edition 3, told by the packet's bytes alone, with the field named: a type 3 segment (0); a mask with some
 -- but not all of D28-30 (the lowest-numbered unset); D32.18 set (49); a job definition with J14 among .. (14)"

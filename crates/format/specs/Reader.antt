@@ -4,14 +4,11 @@ use Rattle.std.specs.Prelude.{ℕ, zero, suc, ◌+◌, cond, List, [], ◌∷◌
 use Rattle.distinct.specs.Distinct.{without_repeats}
 use Rattle.format.specs.declared.Settings.{Settings}
 use Rattle.format.specs.declared.Reading.{Reading}
-use Rattle.format.specs.declared.Check.{Check}
-use Rattle.format.specs.declared.Check.TheVariants.{Passed, Failed}
-use Rattle.format.specs.declared.Answer.{Answer}
-use Rattle.format.specs.declared.Answer.TheVariants.{Accepted, Refused}
+use Rattle.format.specs.Check.{Check, Passed, Failed}
+use Rattle.format.specs.Answer.{Answer, Accepted, Refused, Outcome, outcome, left_by}
 use Rattle.format.specs.Packet.{version, Segment, size_at, segment_at}
 use Rattle.format.specs.Dwell.{dwell_fields, target_count, Pair, pair_of, is_same_pair}
 use Rattle.format.specs.Sheet.{header_record, packet_records, record_bytes}
-use Rattle.format.specs.Answer.{Outcome, outcome, left_by}
 use Rattle.format.specs.Rows.{first_row, header_rows, segment_rows}
 
 -- "Segments fill the rest; there may be none": the segments up to the packet's end (Passed) or to the first to which a row applies

@@ -12,8 +12,7 @@ use Rattle.position.specs.Position.{is_latitude}
 use Rattle.format.specs.declared.Settings.{Settings}
 use Rattle.format.specs.declared.Reading.{Reading}
 use Rattle.format.specs.declared.Area.{Area}
-use Rattle.format.specs.declared.Check.{Check}
-use Rattle.format.specs.declared.Check.TheVariants.{Passed, Failed}
+use Rattle.format.specs.Check.{Check, Passed, Failed}
 use Rattle.format.specs.Packet.{header_widths, header_texts, P, is_p1, type_at, size_at, body_at, s2, is_known, mission_widths, mission_texts, M, job_widths, job_texts, J, free_text_widths, free_text_texts}
 use Rattle.format.specs.Dwell.{mask_of, dwell_fields, D, target_count, targets_of, target_length, target_fields, D32, D32±, area_of, latitude}
 use Rattle.format.specs.Edition.{is_older, is_hrr, is_new_mode}

@@ -7,9 +7,7 @@ use Rattle.std.specs.Prelude.{ℕ, ◌+◌, ◌-◌, ◌≡◌, List, [], ◌∷
 use Rattle.octets.specs.Octets.{be, bytes, signed}
 use Rattle.position.specs.Trials.{marked as positions}
 use Rattle.format.specs.Edition.{as_edition}
-use Rattle.format.specs.declared.Answer.{Answer}
-use Rattle.format.specs.declared.Answer.TheVariants.{Accepted, Refused}
-use Rattle.format.specs.Answer.{outcome}
+use Rattle.format.specs.Answer.{Answer, Accepted, Refused, outcome}
 use Rattle.format.specs.Reader.{reading_answer, sheet, read}
 use Rattle.format.specs.Bound.{sheet_bound}
 use Rattle.format.specs.Writer.{write}

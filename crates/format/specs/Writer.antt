@@ -5,14 +5,11 @@ use Rattle.octets.specs.Octets.{be}
 use Rattle.mask.specs.Fields.{announced_fields, dwell_widths, target_widths, d32}
 use Rattle.hrr.specs.Hrr.{hrr_mask, hrr_widths, scatterer_count, scatterer_widths, narrowed}
 use Rattle.format.specs.Edition.{as_edition}
-use Rattle.format.specs.declared.Check.{Check}
-use Rattle.format.specs.declared.Check.TheVariants.{Passed, Failed}
-use Rattle.format.specs.declared.Answer.{Answer}
-use Rattle.format.specs.declared.Answer.TheVariants.{Accepted, Refused}
+use Rattle.format.specs.Check.{Check, Passed, Failed}
+use Rattle.format.specs.Answer.{Answer, Accepted, Refused, Outcome, outcome, left_by}
 use Rattle.format.specs.Packet.{Segment, segment_bytes}
 use Rattle.format.specs.Dwell.{D}
 use Rattle.format.specs.Sheet.{Record, body_length}
-use Rattle.format.specs.Answer.{Outcome, outcome, left_by}
 use Rattle.format.specs.Rows.{Row, row, first_row}
 use Rattle.format.specs.Reader.{dwells_in, targets_in, parsed, sheet, reading_answer}
 

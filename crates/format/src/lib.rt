@@ -1,6 +1,10 @@
 // The values that the definitions of this crate speak of.
 #![tactic(auto)]
 
+ghost use Rattle.std.specs.Prelude.{◌≡◌};
+ghost use Rattle.format.specs.Check.{Failed, check_of};
+ghost use Rattle.format.specs.Answer.{Refused, answer_of};
+
 // What the caller asks of a reading: the edition whose tables are used. A further setting becomes a field here.
 #[derive(Clone, Copy)]
 pub struct Settings {
@@ -24,30 +28,80 @@ pub struct Area {
     pub d25: position::Ba32,
 }
 
-// What the rows of the table of refusals say of the call and the header, or of one segment.
-#[derive(Clone, Copy)]
-pub enum Check {
-    // No row applies.
-    Passed,
-    // The number and the field of the first row that applies.
-    Failed(usize, usize),
+// What is at fault in the call and the header, or in one segment: the first row of the table of refusals that applies.
+#[derive(Clone, Copy, Debug, PartialEq, Eq)]
+pub struct Fault {
+    // Kept: a number and no enum, since `first_row` and `gmti_read` promise the row's own number.
+    pub number: usize,
+    // Kept: 0 for none and no Option, since `first_row` and `gmti_read` promise that very 0 where a row names no field.
+    pub field: usize,
 }
 
-// The answer of a reading or of the writer. specs/Answer.antt states the seven numbers of each case.
-#[derive(Clone, Copy)]
-pub enum Answer {
-    // Segments, dwells, targets, and the length of the sheet or of the packet.
-    Accepted(usize, usize, usize, usize),
-    // Number, segment and field.
-    Refused(usize, usize, usize),
+impl Fault {
+    // A row that names no field.
+    pub fn row(number: usize) -> Fault
+        ensures { check_of (Err result) ≡ Failed number 0 }
+    {
+        Fault { number, field: 0 }
+    }
+
+    pub fn naming(number: usize, field: usize) -> Fault
+        ensures { check_of (Err result) ≡ Failed number field }
+    {
+        Fault { number, field }
+    }
+
+    // The refusal of a packet whose segment of this number has the fault; 0 for the call and the header.
+    pub fn in_segment(self, segment: usize) -> Refusal
+        ensures { answer_of (Err result) ≡ Refused self.number segment self.field }
+    {
+        Refusal {
+            number: self.number,
+            segment,
+            field: self.field,
+        }
+    }
+}
+
+// What a reading or the writer answers, where no row applies.
+#[derive(Clone, Copy, Debug, PartialEq, Eq)]
+pub struct Counts {
+    pub segments: usize,
+    pub dwells: usize,
+    pub targets: usize,
+    // The length of the sheet or of the packet.
+    pub length: usize,
+}
+
+// And where one does. specs/Answer.antt states the seven numbers of either.
+#[derive(Clone, Copy, Debug, PartialEq, Eq)]
+pub struct Refusal {
+    pub number: usize,
+    // From 1; 0 for the call, the header and the lent memory.
+    pub segment: usize,
+    pub field: usize,
+}
+
+impl Refusal {
+    // By a row that names no segment and no field.
+    pub fn row(number: usize) -> Refusal
+        ensures { answer_of (Err result) ≡ Refused number 0 0 }
+    {
+        Refusal {
+            number,
+            segment: 0,
+            field: 0,
+        }
+    }
 }
 
 // The first thing in a packet that is new in Edition 3.
-#[derive(Clone, Copy)]
-pub enum New {
-    Nothing,
-    // The number of the segment that holds it, and the field that document 01 names for it.
-    Found(usize, usize),
+#[derive(Clone, Copy, Debug, PartialEq, Eq)]
+pub struct NewThing {
+    // The number of the segment that holds it.
+    pub segment: usize,
+    // The field that document 01 names for it.
+    pub field: usize,
 }
 
 // The longest packet that row 2 lets pass.
@@ -59,6 +113,9 @@ pub const LONGEST_SHEET: usize = HeaderRecord::WHOLE
 
 // The records of a sheet: the kind of each, the length that the kind fixes for its body, and that of the whole record. Places are counted from
 // the body's first byte.
+// Kept: the three constants in each. A trait that provides `WHOLE` was tried: what a trait provides can stand neither in an array's length nor
+// in another constant, as `LONGEST_SHEET` does. And numbers for kinds, as for types of segments: any byte may be handed in, and the
+// definitions (`body_length`, `is_known`) compare the page's own numbers.
 #[derive(Clone, Copy)]
 pub struct HeaderRecord {}
 

@@ -4,9 +4,7 @@ use Prim.Native.Nat.{ℕ, ◌^◌, ◌<◌}
 use mathlib.Core.Path.{◌≡◌, sym, ap, subst, ◌∙◌}
 use mathlib.Core.List.{List}
 use lib.ListN.{get_or}
-use Rattle.format.specs.declared.Answer.{Answer}
-use Rattle.format.specs.declared.Answer.TheVariants.{Accepted, Refused}
-use Rattle.format.specs.Answer.{numbers_of, Outcome, outcome}
+use Rattle.format.specs.Answer.{Answer, Accepted, Refused, numbers_of, Outcome, outcome}
 
 -- where the numbers of an answer fit 32 bits, those of its case do
 module _ (a : Answer) (fit : (i : ℕ) → get_or (numbers_of a) i 0 < 2 ^ 32) where

@@ -5,35 +5,39 @@
 
 ghost use Rattle.std.specs.Prelude.{◌≡◌, ℕ, ◌^◌, ◌<◌, get_or};
 ghost use Rattle.format.specs.Edition.{as_edition};
-ghost use Rattle.format.specs.Answer.{numbers_of};
+ghost use Rattle.format.specs.Answer.{answer_of, numbers_of};
 ghost use Rattle.format.specs.Reader.{read as readOutcome};
 ghost use Rattle.format.specs.Bound.{sheet_bound, EnoughFor};
 ghost use Rattle.format.specs.Writer.{write as writeOutcome};
 ghost use Rattle.modes.specs.Modes.{lookup, number_of, system_of};
 
-use format::Answer;
+use format::{Counts, Refusal};
 
 // The seven numbers of an answer, in their order: number, segment, field, segments, dwells, targets, length. A caller in C takes 32 bits of each,
 // so they must fit; those of `gmti_read` and `gmti_write` do, whatever they are given (crate demands, proofs/Numbers.antt).
-fn put_numbers(a: Answer, o: &mut [u32; 7])
-    requires { (i : ℕ) → get_or (numbers_of a) i 0 < 2 ^ 32 }
-    ensures { o.new ≡ numbers_of a }
+fn numbers(a: Result<Counts, Refusal>) -> [u32; 7]
+    requires { (i : ℕ) → get_or (numbers_of (answer_of a)) i 0 < 2 ^ 32 }
+    ensures { result ≡ numbers_of (answer_of a) }
 {
     match a {
-        Answer::Accepted(segments, dwells, targets, length) => {
-            *o = [
-                0,
-                0,
-                0,
-                segments as u32,
-                dwells as u32,
-                targets as u32,
-                length as u32,
-            ];
-        }
-        Answer::Refused(number, segment, field) => {
-            *o = [number as u32, segment as u32, field as u32, 0, 0, 0, 0];
-        }
+        Ok(c) => [
+            0,
+            0,
+            0,
+            c.segments as u32,
+            c.dwells as u32,
+            c.targets as u32,
+            c.length as u32,
+        ],
+        Err(r) => [
+            r.number as u32,
+            r.segment as u32,
+            r.field as u32,
+            0,
+            0,
+            0,
+            0,
+        ],
     }
 }
 
@@ -44,7 +48,7 @@ pub extern "C" fn gmti_read(edition: u32, packet: &[u8], sheet: &mut [u8], answe
     ensures answer_after { answer.new ≡ (readOutcome (as_edition edition) packet.now sheet.old).numbers }
     ensures sheet_after { sheet.new ≡ (readOutcome (as_edition edition) packet.now sheet.old).left }
 {
-    put_numbers(reader::read(edition, packet, sheet), answer);
+    *answer = numbers(reader::read(edition, packet, sheet));
 }
 
 // Writes the packet that reads to this sheet into the lent buffer, for C:
@@ -54,7 +58,7 @@ pub extern "C" fn gmti_write(sheet: &[u8], packet: &mut [u8], answer: &mut [u32;
     ensures answer_after { answer.new ≡ (writeOutcome sheet.now packet.old).numbers }
     ensures packet_after { packet.new ≡ (writeOutcome sheet.now packet.old).left }
 {
-    put_numbers(writer::write(sheet, packet), answer);
+    *answer = numbers(writer::write(sheet, packet));
 }
 
 // How many bytes are enough for the sheet of a packet of n bytes; 0 for an n that no packet has. For C:

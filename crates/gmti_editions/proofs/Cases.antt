@@ -1,46 +1,66 @@
 -- What a verdict is, case by case as the code comes to it.
 -- Assumes nothing.
 use Prim.Native.Nat.{ℕ}
-use mathlib.Core.Path.{◌≡◌, sym, ap, ap₂, ◌∙◌}
-use mathlib.Core.Bool.{Bool, true, false, ◌&&◌, cond}
+use Rattle.std.specs.Prelude.{Result, Ok, Err}
+use Rattle.std.specs.Result.{result_eq}
+use borrow.Author.Tests.{eq-eqb, ne_eqb, eqb-true, eqb-false}
+use Rattle.format.specs.declared.Counts.{Counts}
+use Rattle.format.specs.declared.Refusal.{Refusal}
+use mathlib.Core.Path.{◌≡◌, refl, sym, ap, ap₂, ◌∙◌}
+use mathlib.Core.Bool.{Bool, true, false, ◌&&◌, cond, and-true}
+use Rattle.std.proofs.Math.Bool.{and_assoc}
 use mathlib.Core.List.{List}
 use lib.Dec.{eqb}
 use lib.ListN.{take}
 use Rattle.format.specs.Edition.{as_edition}
-use Rattle.format.specs.declared.Answer.{Answer}
-use Rattle.format.specs.declared.Answer.TheVariants.{Accepted, Refused}
-use Rattle.format.specs.declared.New.{New as NewThing}
-use Rattle.format.specs.declared.New.TheVariants.{Nothing, Found}
-use Rattle.format.specs.Answer.{Outcome, outcome}
+use Rattle.format.specs.Answer.{Answer, Accepted, Refused, answer_of, Outcome, outcome}
+use Rattle.format.specs.New.{New as NewThing, Nothing, Found}
 use Rattle.format.specs.Reader.{read}
 use Rattle.format.specs.Writer.{is_same, write}
 use Rattle.gmti_editions.specs.declared.Verdict.{Verdict}
 use Rattle.gmti_editions.specs.declared.Verdict.TheVariants.{NotRead, New, Alike, Broken}
 use Rattle.gmti_editions.specs.Verdict.{is_older_sheet, filled_for, is_returned, is_alike, alike_verdict, new_verdict, older_verdict, new_in, verdict}
 
--- ---- the writer's answer a, and what it left of the buffer
+-- ---- counts and refusals, as the code compares them
 
-module _ (l : List ℕ) (s d t : ℕ) (a : Answer) (left : List ℕ) where
+abbrev same_counts : Counts → Counts → Bool
+same_counts x y = eqb x.segments y.segments && (eqb x.dwells y.dwells && (eqb x.targets y.targets && eqb x.length y.length))
+
+abbrev same_refusals : Refusal → Refusal → Bool
+same_refusals x y = eqb x.number y.number && (eqb x.segment y.segment && eqb x.field y.field)
+
+flip : (a b : ℕ) → eqb a b ≡ eqb b a
+flip a b = go (eqb a b) refl
+  where
+    go : (t : Bool) → eqb a b ≡ t → t ≡ eqb b a
+    go true e = sym (eq-eqb b a (sym (eqb-true a b e)))
+    go false e = sym (ne_eqb b a (λ q. eqb-false a b e (sym q)))
+
+-- the tests of counts in the order and the sense of the definitions
+flip-counts : (x y : Counts) → same_counts x y ≡ (eqb y.segments x.segments && eqb y.dwells x.dwells && eqb y.targets x.targets && eqb y.length x.length)
+flip-counts x y =
+    rw (flip x.segments y.segments, flip x.dwells y.dwells, flip x.targets y.targets, flip x.length y.length, and_assoc, and_assoc)
+
+flip-refusals : (x y : Refusal) → same_refusals x y ≡ (eqb x.number y.number && eqb x.segment y.segment && eqb x.field y.field)
+flip-refusals x y = sym (and_assoc (eqb x.number y.number) (eqb x.segment y.segment) (eqb x.field y.field))
+
+-- ---- the writer's answer, and what it left of the buffer
+
+module _ (l : List ℕ) (k : Counts) (left : List ℕ) where
   -- nothing is returned with a refusal
-  pub returned-refused : (number segment field : ℕ) → a ≡ Refused number segment field → false ≡ is_returned l s d t (outcome a left)
+  pub returned-refused : (a : Result Counts Refusal) (f : Refusal) → a ≡ Err f → false ≡ is_returned l k.segments k.dwells k.targets (outcome (answer_of a) left)
   unfolding is_returned
-  returned-refused number segment field e = ap (λ (x : Answer). is_returned l s d t (outcome x left)) (sym e)
+  returned-refused a f e = ap (λ (x : Result Counts Refusal). is_returned l k.segments k.dwells k.targets (outcome (answer_of x) left)) (sym e)
 
-  module _ (s2 d2 t2 n : ℕ) (e : a ≡ Accepted s2 d2 t2 n) where
-    -- an acceptance, by the test of its counts
-    returned-by : (b : Bool) → (eqb s s2 && eqb d d2 && eqb t t2) ≡ b → (b && is_same (take n left) l) ≡ is_returned l s d t (outcome a left)
-    unfolding is_returned
-    returned-by b h =
-        ap (λ (x : Bool). x && is_same (take n left) l) (sym h)
-        ∙ ap (λ (x : Answer). is_returned l s d t (outcome x left)) (sym e)
-
-    -- other counts
-    pub returned-other : (eqb s s2 && eqb d d2 && eqb t t2) ≡ false → false ≡ is_returned l s d t (outcome a left)
-    returned-other h = returned-by false h
-
-    -- the same counts: the bytes decide
-    pub returned-same : (eqb s s2 && eqb d d2 && eqb t t2) ≡ true → is_same (take n left) l ≡ is_returned l s d t (outcome a left)
-    returned-same h = returned-by true h
+  -- an acceptance, by the test of its counts: those of the reading, but for the length
+  pub returned-by : (a : Result Counts Refusal) (w : Counts) → a ≡ Ok w
+      → (b : Bool) → b ≡ same_counts w (record { segments = k.segments; dwells = k.dwells; targets = k.targets; length = w.length })
+      → (b && is_same (take w.length left) l) ≡ is_returned l k.segments k.dwells k.targets (outcome (answer_of a) left)
+  unfolding is_returned
+  returned-by a w e b h =
+      let last : eqb w.length w.length ≡ true = eq-eqb w.length w.length refl in
+      ap (λ (x : Bool). x && is_same (take w.length left) l) (h ∙ flip-counts w (record { segments = k.segments; dwells = k.dwells; targets = k.targets; length = w.length }) ∙ rw (last, and-true))
+      ∙ ap (λ (x : Result Counts Refusal). is_returned l k.segments k.dwells k.targets (outcome (answer_of x) left)) (sym e)
 
 -- ---- both sheets
 
@@ -58,46 +78,27 @@ module _ (l : List ℕ) (s d t : ℕ) (older newer buffer : List ℕ) {due : Boo
   unfolding is_alike
   alike-by e filled f w h b r = r ∙ ap (is_returned l s d t) (h ∙ ap (λ (x : List ℕ). write x buffer) f) ∙ rw (← is, e)
 
--- ---- the Edition 1 reading's answer a, where nothing is new
+-- ---- the Edition 1 reading's answer, where nothing is new: it must be that of the Edition 3 reading
 
-module _ (l : List ℕ) (s d t n : ℕ) (a : Answer) (older newer buffer : List ℕ) where
-  -- a refusal
-  pub alike-refused : (number segment field : ℕ) → a ≡ Refused number segment field → Broken ≡ alike_verdict l s d t n a older newer buffer
-  unfolding alike_verdict
-  alike-refused number segment field e = ap (λ (x : Answer). alike_verdict l s d t n x older newer buffer) (sym e)
+pub alike_said : (l : List ℕ) (k : Counts) (older newer buffer : List ℕ) (a : Result Counts Refusal) (b : Bool) → b ≡ result_eq same_counts same_refusals a (Ok k)
+    → alike_verdict l k.segments k.dwells k.targets k.length (answer_of a) older newer buffer
+    ≡ cond (b && is_alike l k.segments k.dwells k.targets (take k.length older) (take k.length newer) buffer) Alike Broken
+unfolding alike_verdict
+alike_said l k older newer buffer (Ok x) b h =
+    ap (λ (t : Bool). cond (t && is_alike l k.segments k.dwells k.targets (take k.length older) (take k.length newer) buffer) Alike Broken)
+    (sym (h ∙ flip-counts x k))
+alike_said l k older newer buffer (Err f) b h =
+    ap (λ (t : Bool). cond (t && is_alike l k.segments k.dwells k.targets (take k.length older) (take k.length newer) buffer) Alike Broken) (sym h)
 
-  module _ (s1 d1 t1 n1 : ℕ) (e : a ≡ Accepted s1 d1 t1 n1) where
-    -- an acceptance, by the test of its counts and its length
-    by-counts : (b : Bool) → (eqb s s1 && eqb d d1 && eqb t t1 && eqb n n1) ≡ b
-        → cond (b && is_alike l s d t (take n older) (take n newer) buffer) Alike Broken ≡ alike_verdict l s d t n a older newer buffer
-    unfolding alike_verdict
-    by-counts b h =
-        ap (λ (x : Bool). cond (x && is_alike l s d t (take n older) (take n newer) buffer) Alike Broken) (sym h)
-        ∙ ap (λ (x : Answer). alike_verdict l s d t n x older newer buffer) (sym e)
+-- ---- the same, where something is: it must be this refusal
 
-    -- others
-    pub other-counts : (eqb s s1 && eqb d d1 && eqb t t1 && eqb n n1) ≡ false → Broken ≡ alike_verdict l s d t n a older newer buffer
-    other-counts h = by-counts false h
-
-    -- the same: what the writer makes of the sheets decides
-    pub same-counts : (eqb s s1 && eqb d d1 && eqb t t1 && eqb n n1) ≡ true
-        → (b : Bool) → b ≡ is_alike l s d t (take n older) (take n newer) buffer
-        → cond b Alike Broken ≡ alike_verdict l s d t n a older newer buffer
-    same-counts h b i = ap (λ (x : Bool). cond x Alike Broken) i ∙ by-counts true h
-
--- ---- the same, where something is
-
-module _ (segment field : ℕ) (a : Answer) where
-  -- an acceptance
-  pub new-accepted : (s1 d1 t1 n1 : ℕ) → a ≡ Accepted s1 d1 t1 n1 → Broken ≡ new_verdict segment field a
-  unfolding new_verdict
-  new-accepted s1 d1 t1 n1 e = ap (new_verdict segment field) (sym e)
-
-  -- a refusal, by the test of its three numbers
-  pub new-refused : (number segment1 field1 : ℕ) → a ≡ Refused number segment1 field1
-      → (b : Bool) → (eqb number 15 && eqb segment1 segment && eqb field1 field) ≡ b → cond b New Broken ≡ new_verdict segment field a
-  unfolding new_verdict
-  new-refused number segment1 field1 e b h = ap (λ (x : Bool). cond x New Broken) (sym h) ∙ ap (new_verdict segment field) (sym e)
+pub new_said : (segment field : ℕ) (a : Result Counts Refusal) (b : Bool)
+    → b ≡ result_eq same_counts same_refusals a (Err (record { number = 15; segment = segment; field = field }))
+    → new_verdict segment field (answer_of a) ≡ cond b New Broken
+unfolding new_verdict
+new_said segment field (Ok x) b h = ap (λ (t : Bool). cond t New Broken) (sym h)
+new_said segment field (Err f) b h =
+    ap (λ (t : Bool). cond t New Broken) (sym (h ∙ flip-refusals f (record { number = 15; segment = segment; field = field })))
 
 -- ---- by what is new
 

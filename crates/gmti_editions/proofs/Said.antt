@@ -10,14 +10,16 @@ use native.Mathlib.Omega.{arith}
 use lib.ListN.{length, take, drop, set, length-drop, drop_of_length-le}
 use lib.Seq.{sets, sets-eq, take_all, take_at}
 use Rattle.format.specs.Edition.{as_edition}
-use Rattle.format.specs.declared.Answer.{Answer}
+use Rattle.format.specs.Answer.{Answer}
 use Rattle.format.specs.Reader.{read}
 use Rattle.printing.specs.Printing.{answer_text}
 use Rattle.printing.proofs.Lines.{Laid, laid-join, laid-byte}
 use Rattle.vectors.specs.declared.Fault.{Fault}
-use Rattle.vectors.specs.declared.Fault.TheVariants.{Nothing, Form, Number, Digit, Half, Length}
+use Rattle.vectors.specs.declared.Fault.TheVariants.{Form}
+use Rattle.std.proofs.Common.{Result, Ok, Err, IsOk}
+use Rattle.std.specs.Result.{is_ok}
 use Rattle.lines.specs.Lines.{before}
-use Rattle.vectors.specs.Vectors.{is_colon, hex_fault, pairs, unhexed, fault_text, unread_line}
+use Rattle.vectors.specs.Vectors.{is_colon, hex_fault, pairs, unhexed, unread_line}
 use Rattle.gmti_editions.specs.declared.Verdict.{Verdict}
 use Rattle.gmti_editions.specs.declared.Verdict.TheVariants.{NotRead, New, Alike, Broken}
 use Rattle.gmti_editions.specs.Verdict.{verdict}
@@ -45,16 +47,6 @@ module _ (newer older : Answer) where
 pub under : (l : List ℕ) (at : ℕ) {us vs a : List ℕ} {p n : ℕ} → vs ≡ us → p ≤ n → Laid l at us p a → ((p ≡ at + length vs) × (p ≤ n)) × (a ≡ sets l at vs)
 under l at e w h = rw e ((h.0, w), h.1)
 
--- what is wrong with a line is all that is said of it
-pub only-fault : (f : Fault) (said : List ℕ) → (f ≡ Nothing → ⊥) → text_of f said ≡ fault_text f
-unfolding text_of
-only-fault Nothing said h = absurd (h refl)
-only-fault Form said h = refl
-only-fault Number said h = refl
-only-fault Digit said h = refl
-only-fault Half said h = refl
-only-fault Length said h = refl
-
 -- what stands from a place on, or from the end where it lies behind
 pub rest_from : (s : List ℕ) (k : ℕ) {h : ℕ} → h ≡ min (length s) k → take (length s - h) (drop h s) ≡ drop k s
 rest_from s k {h} e =
@@ -76,7 +68,7 @@ hex-from line {name} e k = rest_from line (name + 2) k ∙ ap (λ (i : ℕ). dro
 
 -- what is wrong with a line, by whether a colon and a space stand behind its name
 module _ (line : List ℕ) {name : ℕ} (e : name ≡ before 58 line) where
-  pub fault-form : is_colon (drop name line) ≡ false → line_fault line ≡ Form
+  pub fault-form : is_colon (drop name line) ≡ false → line_fault line ≡ Err Form
   unfolding line_fault
   fault-form h = rw (← e, h)
 
@@ -117,27 +109,19 @@ unfolding said_of name_of packet_text
 packet-said line lent1 lent3 buffer e k ev en eo = rw (ev, en, eo, k, e)
 
 -- a line that nothing is wrong with has its hex, and one that something is wrong with has nothing else said of it
-is-nothing : Fault → ℕ
-is-nothing Nothing = 1
-is-nothing Form = 0
-is-nothing Number = 0
-is-nothing Digit = 0
-is-nothing Half = 0
-is-nothing Length = 0
-
-pub fault-nothing : (line : List ℕ) → line_fault line ≡ Nothing → hex_fault (hex_of line) ≡ Nothing
-unfolding line_fault is-nothing
-fault-nothing line h = go (is_colon (drop (before 58 line) line)) h
+pub fault-none : (line : List ℕ) {u : Unit {0}} → line_fault line ≡ Ok u → IsOk (hex_fault (hex_of line))
+unfolding line_fault
+fault-none line {u} h = go (is_colon (drop (before 58 line) line)) (hex_fault (hex_of line)) h
   where
-    go : (t : Bool) → cond t (hex_fault (hex_of line)) Form ≡ Nothing → hex_fault (hex_of line) ≡ Nothing
-    go true h = h
-    go false h = let z : ◌≡◌ {A = ℕ} 0 1 = ap is-nothing h in absurd (omega arith)
+    go : (t : Bool) (r : Result (Unit {0}) Fault) → cond t r (Err Form) ≡ Ok u → IsOk r
+    go true r h = ap is_ok h
+    go false r h = cc
 
-module _ (line lent1 lent3 buffer : List ℕ) {f : Fault} (e : f ≡ line_fault line) where
-  pub nothing_said : f ≡ Nothing → answer_of line lent1 lent3 buffer ≡ said_of line (packet_text (unhexed (hex_of line)) lent1 lent3 buffer)
+module _ (line lent1 lent3 buffer : List ℕ) {r : Result (Unit {0}) Fault} (e : r ≡ line_fault line) where
+  pub nothing_said : {u : Unit {0}} → r ≡ Ok u → answer_of line lent1 lent3 buffer ≡ said_of line (packet_text (unhexed (hex_of line)) lent1 lent3 buffer)
   unfolding answer_of text_of
   nothing_said h = rw (← e, h)
 
-  pub fault-said : {name : ℕ} → name ≡ before 58 line → (f ≡ Nothing → ⊥) → answer_of line lent1 lent3 buffer ≡ unread_line (take name line) f
-  unfolding answer_of said_of name_of unread_line
-  fault-said k h = rw (← e, only-fault f (packet_text (unhexed (hex_of line)) lent1 lent3 buffer) h, k)
+  pub fault-said : {name : ℕ} {f : Fault} → name ≡ before 58 line → r ≡ Err f → answer_of line lent1 lent3 buffer ≡ unread_line (take name line) f
+  unfolding answer_of said_of name_of unread_line text_of
+  fault-said k h = rw (← e, h, k)

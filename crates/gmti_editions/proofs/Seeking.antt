@@ -14,15 +14,12 @@ use Rattle.octets.proofs.Parts.{tail-is}
 use Rattle.mask.specs.Mask.{new_in_mask}
 use Rattle.format.specs.declared.Settings.{Settings}
 use Rattle.format.specs.declared.Reading.{Reading}
-use Rattle.format.specs.declared.Check.{Check}
-use Rattle.format.specs.declared.Check.TheVariants.{Passed, Failed}
-use Rattle.format.specs.declared.New.{New}
-use Rattle.format.specs.declared.New.TheVariants.{Nothing, Found}
+use Rattle.format.specs.Check.{Check, Passed, Failed}
+use Rattle.format.specs.New.{New, Nothing, Found, new_rows, first_new}
 use Rattle.format.specs.Packet.{Segment, type_at, size_at, body_at, J, segment_at}
 use Rattle.format.specs.Dwell.{mask_of}
 use Rattle.format.specs.Edition.{is_hrr, is_new_mode}
 use Rattle.format.specs.Rows.{naming, first_row, body_rows}
-use Rattle.format.specs.New.{new_rows, first_new}
 use Rattle.format.specs.Reader.{Parsed, parse, parsed, reading_of}
 use Rattle.format.proofs.Acceptance.{header-sized}
 use Rattle.format.proofs.Bodies.{job-length}

@@ -11,13 +11,9 @@ use lib.ListN.{length, take}
 use Rattle.octets.specs.Layout.{over}
 use Rattle.format.specs.declared.Settings.{Settings}
 use Rattle.format.specs.Edition.{as_edition}
-use Rattle.format.specs.declared.Answer.{Answer}
-use Rattle.format.specs.declared.Answer.TheVariants.{Accepted, Refused}
-use Rattle.format.specs.declared.New.{New as NewThing}
-use Rattle.format.specs.declared.New.TheVariants.{Nothing, Found}
+use Rattle.format.specs.Answer.{Answer, Accepted, Refused, Outcome, outcome}
+use Rattle.format.specs.New.{New as NewThing, Nothing, Found, first_new}
 use Rattle.format.specs.Packet.{version}
-use Rattle.format.specs.Answer.{Outcome, outcome}
-use Rattle.format.specs.New.{first_new}
 use Rattle.format.specs.Reader.{parsed, reading_answer, read}
 use Rattle.format.proofs.Acceptance.{same_length, read_only}
 use Rattle.format.proofs.Sameness.{same-itself}

@@ -1,13 +1,13 @@
 -- The line that answers a line `NAME: HEX`.
 -- Assumes nothing.
-use Rattle.std.specs.Prelude.{ℕ, ◌+◌, cond, List, [], ◌∷◌, ◌++◌, take, drop}
+use Rattle.std.specs.Prelude.{ℕ, ◌+◌, cond, List, [], ◌∷◌, ◌++◌, take, drop, Result, Ok, Err}
 use Rattle.format.specs.Edition.{as_edition}
-use Rattle.format.specs.declared.Answer.{Answer}
+use Rattle.format.specs.Answer.{Answer}
 use Rattle.format.specs.Reader.{read}
 use Rattle.printing.specs.Printing.{answer_text}
 use Rattle.lines.specs.Lines.{before}
 use Rattle.vectors.specs.declared.Fault.{Fault}
-use Rattle.vectors.specs.declared.Fault.TheVariants.{Nothing, Form, Number, Digit, Half, Length}
+use Rattle.vectors.specs.declared.Fault.TheVariants.{Form}
 use Rattle.vectors.specs.Vectors.{is_colon, hex_fault, unhexed, fault_text}
 use Rattle.gmti_editions.specs.declared.Verdict.{Verdict}
 use Rattle.gmti_editions.specs.declared.Verdict.TheVariants.{NotRead, New, Alike, Broken}
@@ -32,17 +32,13 @@ unfoldable pub hex_of : List ℕ → List ℕ
 hex_of line = drop (before 58 line + 2) line
 
 -- what is wrong with a line
-unfoldable pub line_fault : List ℕ → Fault
-line_fault line = cond (is_colon (drop (before 58 line) line)) (hex_fault (hex_of line)) Form
+unfoldable pub line_fault : List ℕ → Result (Unit {0}) Fault
+line_fault line = cond (is_colon (drop (before 58 line) line)) (hex_fault (hex_of line)) (Err Form)
 
 -- what is said of a line: what is said of its packet, or what is wrong with it
-unfoldable pub text_of : Fault → List ℕ → List ℕ
-text_of Nothing said = said
-text_of Form said = fault_text Form
-text_of Number said = fault_text Number
-text_of Digit said = fault_text Digit
-text_of Half said = fault_text Half
-text_of Length said = fault_text Length
+unfoldable pub text_of : Result (Unit {0}) Fault → List ℕ → List ℕ
+text_of (Ok _) said = said
+text_of (Err f) said = fault_text f
 
 -- a line's name, a colon, a space, and what is said of it
 unfoldable pub said_of : List ℕ → List ℕ → List ℕ

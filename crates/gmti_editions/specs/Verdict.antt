@@ -4,13 +4,9 @@
 use Rattle.std.specs.Prelude.{ℕ, suc, ◌≡◌, Bool, false, ◌&&◌, cond, List, [], ◌∷◌, eqb, length, take}
 use Rattle.octets.specs.Octets.{Bytes}
 use Rattle.format.specs.Edition.{as_edition}
-use Rattle.format.specs.declared.Answer.{Answer}
-use Rattle.format.specs.declared.Answer.TheVariants.{Accepted, Refused}
-use Rattle.format.specs.declared.New.{New as NewThing}
-use Rattle.format.specs.declared.New.TheVariants.{Nothing, Found}
+use Rattle.format.specs.Answer.{Answer, Accepted, Refused, Outcome}
+use Rattle.format.specs.New.{New as NewThing, Nothing, Found, first_new}
 use Rattle.format.specs.Packet.{version}
-use Rattle.format.specs.Answer.{Outcome}
-use Rattle.format.specs.New.{first_new}
 use Rattle.format.specs.Reader.{parsed, read}
 use Rattle.format.specs.Writer.{listed, is_same, write}
 use Rattle.demands.specs.Filled.{filled_in}

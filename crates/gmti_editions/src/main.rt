@@ -3,14 +3,15 @@
 // the line.
 #![tactic(auto)]
 
-ghost use Rattle.std.specs.Prelude.{◌≡◌, ◌&&◌, cond, List, [], ◌∷◌, ◌++◌, ℕ, ◌+◌, ◌/◌, ◌≤◌, eqb, leb, ltb, length};
+ghost use Rattle.std.specs.Prelude.{◌≡◌, ◌&&◌, cond, List, [], ◌∷◌, ◌++◌, ℕ, ◌+◌, ◌/◌, ◌≤◌, eqb, leb, ltb, length, IsOk};
 ghost use Rattle.std.proofs.lemmas.List.Edits.{sets};
-ghost use Rattle.lines.specs.Lines.{before, NextWithin};
+ghost use Rattle.lines.specs.Lines.{before, length_of};
 ghost use Rattle.format.specs.Edition.{as_edition};
 ghost use Rattle.format.specs.Packet.{version};
-ghost use Rattle.format.specs.Answer.{outcome};
+ghost use Rattle.format.specs.Answer.{answer_of, outcome};
+ghost use Rattle.format.specs.Check.{check_of};
 ghost use Rattle.format.specs.Rows.{first_row};
-ghost use Rattle.format.specs.New.{new_rows, first_new};
+ghost use Rattle.format.specs.New.{new_of, new_rows, first_new};
 ghost use Rattle.format.specs.Reader.{parsed, read};
 ghost use Rattle.format.specs.Writer.{is_same};
 ghost use Rattle.segments.specs.InnerWalk.{CheckedPacket};
@@ -18,13 +19,14 @@ ghost use Rattle.demands.specs.Places.{is_withheld_in};
 ghost use Rattle.demands.specs.Demands.{BothRead};
 ghost use Rattle.gmti_editions.specs.declared.Verdict.TheVariants.{Alike};
 ghost use Rattle.gmti_editions.specs.Verdict.{zero_where, is_withheld_sheet, is_older_sheet, filled_for, is_returned, is_alike, alike_verdict, new_verdict, older_verdict, new_in, verdict as verdictOf, Version1Read, Demanded};
-ghost use Rattle.vectors.specs.declared.Fault.TheVariants.{Nothing};
 ghost use Rattle.vectors.specs.Vectors.{hex_fault, unhexed};
-ghost use Rattle.gmti_editions.specs.Line.{judged_text, packet_text, hex_of, line_fault, said_of, answer_of};
+ghost use Rattle.gmti_editions.specs.Line.{judged_text, packet_text, hex_of, line_fault, said_of, answer_of as line_answer};
 
-use format::{Answer, Check, DwellRecord, JobRecord, New};
+use format::{Counts, DwellRecord, Fault, JobRecord, NewThing, Refusal};
+use lines::Line;
 use sheet_walk::Place;
 use std::io;
+use streams::Failed;
 
 // What both readings and the writer make of a packet.
 #[derive(Clone, Copy)]
@@ -43,32 +45,32 @@ enum Verdict {
 #[derive(Clone, Copy)]
 struct Judged {
     verdict: Verdict,
-    newer: Answer,
-    older: Answer,
+    newer: Result<Counts, Refusal>,
+    older: Result<Counts, Refusal>,
 }
 
 // The first thing in a segment that is new in Edition 3, as a row of the table of refusals. The body has what is looked at.
-fn new_row(segment_type: u8, b: &[u8]) -> Check
+fn new_row(segment_type: u8, b: &[u8]) -> Result<(), Fault>
     requires { (segment_type ≡ 2 → 8 ≤ length b.now) × (segment_type ≡ 5 → 46 ≤ length b.now) }
-    ensures { result ≡ first_row (new_rows (record { type = segment_type; body = b.now })) }
+    ensures { check_of result ≡ first_row (new_rows (record { type = segment_type; body = b.now })) }
 {
     if segment_type == 3 {
-        return Check::Failed(15, 0);
+        return Err(Fault::row(15));
     }
     if segment_type == 2 {
         let field = mask::new_in_mask(octets::get_u64(b, 0));
         return checks::naming_row(15, field as usize);
     }
     if segment_type == 5 && editions::is_new_mode(b[JobRecord::J14]) {
-        return Check::Failed(15, 14);
+        return Err(Fault::naming(15, 14));
     }
-    Check::Passed
+    Ok(())
 }
 
 // The first thing in a packet that is new in Edition 3, where the Edition 3 reading finds no fault in it.
-fn first_new(packet: &[u8]) -> New
+fn first_new(packet: &[u8]) -> Option<NewThing>
     requires { CheckedPacket (as_edition 3) packet.now }
-    ensures { result ≡ first_new 1 (parsed (as_edition 3) packet.now).segments }
+    ensures { new_of result ≡ first_new 1 (parsed (as_edition 3) packet.now).segments }
 {
     let mut at = format::HeaderRecord::LEN;
     let mut segment = 1;
@@ -76,13 +78,16 @@ fn first_new(packet: &[u8]) -> New
         let t = &packet[at..];
         let size = segments::size_at(t);
         let segment_type = t[0];
-        if let Check::Failed(_, field) = new_row(segment_type, &t[5..size]) {
-            return New::Found(segment, field);
+        if let Err(fault) = new_row(segment_type, &t[5..size]) {
+            return Some(NewThing {
+                segment,
+                field: fault.field,
+            });
         }
         segment += 1;
         at += size;
     }
-    New::Nothing
+    None
 }
 
 // Whether the packet is of version 3: P1 begins with the character 3.
@@ -93,14 +98,14 @@ fn is_version_3(packet: &[u8]) -> bool
 }
 
 // What the Edition 1 reading cannot read: nothing in a version 1 packet, and else the first new thing.
-fn new_in(packet: &[u8]) -> New
+fn new_in(packet: &[u8]) -> Option<NewThing>
     requires { CheckedPacket (as_edition 3) packet.now }
-    ensures { result ≡ new_in packet.now }
+    ensures { new_of result ≡ new_in packet.now }
 {
     if is_version_3(packet) {
         first_new(packet)
     } else {
-        New::Nothing
+        None
     }
 }
 
@@ -182,16 +187,15 @@ fn is_older_sheet(packet: &[u8], older: &[u8], newer: &[u8]) -> bool
 }
 
 // Whether the writer's answer and buffer are the packet l with these counts.
-fn is_returned(l: &[u8], s: usize, d: usize, t: usize, a: Answer, buffer: &[u8]) -> bool
-    ensures { result ≡ is_returned l.now s d t (outcome a buffer.now) }
+fn is_returned(l: &[u8], counts: Counts, a: Result<Counts, Refusal>, buffer: &[u8]) -> bool
+    ensures { result ≡ is_returned l.now counts.segments counts.dwells counts.targets (outcome (answer_of a) buffer.now) }
 {
     match a {
-        Answer::Refused(..) => false,
-        Answer::Accepted(segments, dwells, targets, length) => {
-            if s != segments || d != dwells || t != targets {
-                return false;
-            }
-            readback::same(printing::front(buffer, length), l)
+        Err(_) => false,
+        Ok(written) => {
+            let length = written.length;
+            written == Counts { length, ..counts }
+                && readback::same(printing::front(buffer, length), l)
         }
     }
 }
@@ -207,88 +211,69 @@ fn fill_for(packet: &[u8], older: &mut [u8], newer: &[u8])
 
 // Whether the older sheet is the one that is due beside the newer one, and filled in from that is written back to the packet l with these
 // counts.
-fn is_alike(
-    l: &[u8],
-    s: usize,
-    d: usize,
-    t: usize,
-    older: &mut [u8],
-    newer: &[u8],
-    buffer: &mut [u8],
-) -> bool
-    ensures { result ≡ is_alike l.now s d t older.old newer.now buffer.old }
+fn is_alike(l: &[u8], counts: Counts, older: &mut [u8], newer: &[u8], buffer: &mut [u8]) -> bool
+    ensures { result ≡ is_alike l.now counts.segments counts.dwells counts.targets older.old newer.now buffer.old }
 {
     if !is_older_sheet(l, older, newer) {
         return false;
     }
     fill_for(l, older, newer);
     let a = writer::write(older, buffer);
-    is_returned(l, s, d, t, a, buffer)
+    is_returned(l, counts, a, buffer)
 }
 
 // The verdict where the packet holds nothing new, and the Edition 3 reading accepts with these counts and this length.
+// Kept: three lent slices. A struct of them would be taken apart in each function, since each lends them on in another way.
 fn alike_verdict(
     l: &[u8],
-    s: usize,
-    d: usize,
-    t: usize,
-    n: usize,
-    a: Answer,
+    counts: Counts,
+    a: Result<Counts, Refusal>,
     older: &mut [u8],
     newer: &[u8],
     buffer: &mut [u8],
 ) -> Verdict
-    requires { (n ≤ length older.old) × (n ≤ length newer.now) }
-    ensures { result ≡ alike_verdict l.now s d t n a older.old newer.now buffer.old }
+    requires { (counts.length ≤ length older.old) × (counts.length ≤ length newer.now) }
+    ensures { result ≡ alike_verdict l.now counts.segments counts.dwells counts.targets counts.length (answer_of a) older.old newer.now buffer.old }
 {
-    match a {
-        Answer::Refused(..) => Verdict::Broken,
-        Answer::Accepted(segments, dwells, targets, length) => {
-            if s != segments || d != dwells || t != targets || n != length {
-                return Verdict::Broken;
-            }
-            if is_alike(l, s, d, t, &mut older[..n], &newer[..n], buffer) {
-                Verdict::Alike
-            } else {
-                Verdict::Broken
-            }
-        }
+    let n = counts.length;
+    if a == Ok(counts) && is_alike(l, counts, &mut older[..n], &newer[..n], buffer) {
+        Verdict::Alike
+    } else {
+        Verdict::Broken
     }
 }
 
-// The verdict where the first new thing in the packet is in this segment and has this field.
-fn new_verdict(segment: usize, field: usize, a: Answer) -> Verdict
-    ensures { result ≡ new_verdict segment field a }
+// The verdict where this is the first new thing in the packet.
+fn new_verdict(first: NewThing, a: Result<Counts, Refusal>) -> Verdict
+    ensures { result ≡ new_verdict first.segment first.field (answer_of a) }
 {
-    match a {
-        Answer::Accepted(..) => Verdict::Broken,
-        Answer::Refused(number, its_segment, its_field) => {
-            if number != 15 || its_segment != segment || its_field != field {
-                return Verdict::Broken;
-            }
-            Verdict::New
-        }
+    let due = Refusal {
+        number: 15,
+        segment: first.segment,
+        field: first.field,
+    };
+    if a == Err(due) {
+        Verdict::New
+    } else {
+        Verdict::Broken
     }
 }
 
 // The verdict where the Edition 3 reading accepts with these counts and this length.
 fn older_verdict(
     l: &[u8],
-    s: usize,
-    d: usize,
-    t: usize,
-    n: usize,
-    a: Answer,
+    counts: Counts,
+    a: Result<Counts, Refusal>,
     older: &mut [u8],
     newer: &[u8],
     buffer: &mut [u8],
 ) -> Verdict
-    requires { CheckedPacket (as_edition 3) l.now × (n ≤ length older.old) × (n ≤ length newer.now) }
-    ensures { result ≡ older_verdict l.now s d t n (new_in l.now) a older.old newer.now buffer.old }
+    requires { CheckedPacket (as_edition 3) l.now × (counts.length ≤ length older.old) × (counts.length ≤ length newer.now) }
+    ensures { result ≡ older_verdict l.now counts.segments counts.dwells counts.targets counts.length (new_in l.now) (answer_of a) older.old newer.now buffer.old }
 {
     match new_in(l) {
-        New::Nothing => alike_verdict(l, s, d, t, n, a, older, newer, buffer),
-        New::Found(segment, field) => new_verdict(segment, field, a),
+        None => alike_verdict(l, counts, a, older, newer, buffer),
+        Some(first) => new_verdict(first, a),
     }
 }
 
@@ -297,17 +282,15 @@ fn older_verdict(
 fn judge(l: &[u8], older: &mut [u8], newer: &mut [u8], buffer: &mut [u8]) -> Judged
     requires { length older.old ≡ length newer.old }
     ensures verdict_value { result.verdict ≡ verdictOf l.now older.old newer.old buffer.old }
-    ensures newer_after { (result.newer ≡ (read (as_edition 3) l.now newer.old).answer) × (result.older ≡ (read (as_edition 1) l.now older.old).answer) }
+    ensures newer_after { (answer_of result.newer ≡ (read (as_edition 3) l.now newer.old).answer) × (answer_of result.older ≡ (read (as_edition 1) l.now older.old).answer) }
     ensures demanded { (s d t n : ℕ) → BothRead l.now older.old newer.old s d t n → length l.now ≤ length buffer.old → Demanded l.now older.old newer.old s d t n result.verdict }
     ensures verdict_value_2 { (s d t n : ℕ) → Version1Read l.now older.old newer.old s d t n → length l.now ≤ length buffer.old → result.verdict ≡ Alike }
 {
     let a3 = reader::read(3, l, newer);
     let a1 = reader::read(1, l, older);
     let verdict = match a3 {
-        Answer::Refused(..) => Verdict::NotRead,
-        Answer::Accepted(segments, dwells, targets, length) => older_verdict(
-            l, segments, dwells, targets, length, a1, older, newer, buffer,
-        ),
+        Err(_) => Verdict::NotRead,
+        Ok(counts) => older_verdict(l, counts, a1, older, newer, buffer),
     };
     Judged {
         verdict: verdict,
@@ -319,8 +302,8 @@ fn judge(l: &[u8], older: &mut [u8], newer: &mut [u8], buffer: &mut [u8]) -> Jud
 // The word of a verdict, and the answer behind it: that of the Edition 1 reading, or the Edition 3 reading's refusal.
 fn put_judged(o: &mut [u8], at: usize, j: Judged) -> usize
     requires { at + 92 ≤ length o.old }
-    ensures value { (result ≡ at + length (judged_text j.verdict j.newer j.older)) × (result ≤ at + 92) }
-    ensures o_after { o.new ≡ sets o.old at (judged_text j.verdict j.newer j.older) }
+    ensures value { (result ≡ at + length (judged_text j.verdict (answer_of j.newer) (answer_of j.older))) × (result ≤ at + 92) }
+    ensures o_after { o.new ≡ sets o.old at (judged_text j.verdict (answer_of j.newer) (answer_of j.older)) }
 {
     let verdict = j.verdict;
     let newer = j.newer;
@@ -345,8 +328,8 @@ fn put_judged(o: &mut [u8], at: usize, j: Judged) -> usize
 // The line that answers the packet of this name, at the front of out; answers its length.
 fn put_line(out: &mut [u8], name: &[u8], j: Judged) -> usize
     requires { length name.now + 95 ≤ length out.old }
-    ensures value { (result ≡ length (name.now ++ (58 ∷ 32 ∷ []) ++ judged_text j.verdict j.newer j.older ++ (10 ∷ []))) × (result ≤ length out.new) }
-    ensures out_after { out.new ≡ sets out.old 0 (name.now ++ (58 ∷ 32 ∷ []) ++ judged_text j.verdict j.newer j.older ++ (10 ∷ [])) }
+    ensures value { (result ≡ length (name.now ++ (58 ∷ 32 ∷ []) ++ judged_text j.verdict (answer_of j.newer) (answer_of j.older) ++ (10 ∷ []))) × (result ≤ length out.new) }
+    ensures out_after { out.new ≡ sets out.old 0 (name.now ++ (58 ∷ 32 ∷ []) ++ judged_text j.verdict (answer_of j.newer) (answer_of j.older) ++ (10 ∷ [])) }
 {
     let p = vectors::put_name(out, name);
     let q = put_judged(out, p, j);
@@ -355,12 +338,12 @@ fn put_line(out: &mut [u8], name: &[u8], j: Judged) -> usize
 }
 
 // What is wrong with a line whose name ends at this place.
-fn fault(line: &[u8], name: usize) -> vectors::Fault
+fn fault(line: &[u8], name: usize) -> Result<(), vectors::Fault>
     requires { name ≡ before 58 line.now }
     ensures { result ≡ line_fault line.now }
 {
     if !vectors::is_colon(line, name) {
-        return vectors::Fault::Form;
+        return Err(vectors::Fault::Form);
     }
     let hex = vectors::further(line, name, 2);
     vectors::hex_fault(&line[hex..])
@@ -376,7 +359,7 @@ fn put_packet(
     buffer: &mut [u8],
     out: &mut [u8],
 ) -> usize
-    requires name_value { (name ≡ before 58 line.now) × (hex_fault (hex_of line.now) ≡ Nothing) }
+    requires name_value { (name ≡ before 58 line.now) × IsOk (hex_fault (hex_of line.now)) }
     requires line_in_bounds { length line.now / 2 ≤ length packet.old }
     requires older_len { length older.old ≡ length newer.old }
     requires line_in_bounds_2 { length line.now + 95 ≤ length out.old }
@@ -401,55 +384,22 @@ fn answer(
     requires line_in_bounds { length line.now / 2 ≤ length packet.old }
     requires older_len { length older.old ≡ length newer.old }
     requires line_in_bounds_2 { length line.now + 95 ≤ length out.old }
-    ensures value { (result ≡ length (answer_of line.now older.old newer.old buffer.old)) × (result ≤ length out.new) }
-    ensures out_after { out.new ≡ sets out.old 0 (answer_of line.now older.old newer.old buffer.old) }
+    ensures value { (result ≡ length (line_answer line.now older.old newer.old buffer.old)) × (result ≤ length out.new) }
+    ensures out_after { out.new ≡ sets out.old 0 (line_answer line.now older.old newer.old buffer.old) }
 {
     let name = lines::find(line, 0, b':');
-    let f = fault(line, name);
-    let vectors::Fault::Nothing = f else {
-        return vectors::put_unread(out, &line[..name], f);
-    };
-    put_packet(line, name, packet, older, newer, buffer, out)
-}
-
-fn write(rt: &(impl Print + Eprint), s: &[u8]) -> bool {
-    streams::write_all(rt, b"gmti_editions: standard output is cut", s)
+    match fault(line, name) {
+        Err(f) => vectors::put_unread(out, &line[..name], f),
+        Ok(()) => put_packet(line, name, packet, older, newer, buffer, out),
+    }
 }
 
 // The line that answers one of which only the front is held.
-fn write_long(rt: &(impl Print + Eprint), front: &[u8], out: &mut [u8]) -> bool
+fn put_cut(front: &[u8], out: &mut [u8]) -> usize
     requires { length front.now + 16 ≤ length out.old }
 {
     let name = lines::find(front, 0, b':');
-    let n = vectors::put_unread(out, &front[..name], vectors::Fault::Length);
-    write(rt, printing::front(out, n))
-}
-
-// Answers what comes next, and whether to go on.
-fn write_next(
-    rt: &(impl Print + Eprint),
-    next: lines::Next,
-    input: &[u8],
-    packet: &mut [u8],
-    older: &mut [u8],
-    newer: &mut [u8],
-    buffer: &mut [u8],
-    out: &mut [u8],
-) -> bool
-    requires next_within { NextWithin (length input.now) next }
-    requires input_in_bounds { length input.now / 2 ≤ length packet.old }
-    requires older_len { length older.old ≡ length newer.old }
-    requires input_in_bounds_2 { length input.now + 95 ≤ length out.old }
-{
-    match next {
-        lines::Next::Line(from, to) => {
-            let n = answer(&input[from..to], packet, older, newer, buffer, out);
-            write(rt, printing::front(out, n))
-        }
-        lines::Next::Long => write_long(rt, input, out),
-        lines::Next::End => false,
-        lines::Next::Failed => false,
-    }
+    vectors::put_unread(out, &front[..name], vectors::Fault::Length)
 }
 
 // The longest line that is read, with its end; two digits of it spell a byte. The answer has its name, and at most 95 bytes behind it.
@@ -459,7 +409,6 @@ const PACKET: usize = INPUT / 2;
 
 const OUT: usize = INPUT + 95;
 
-// As in `streams`, the loop has more turns than any run uses up.
 fn run(
     rt: &(impl io::Input + Print + Eprint),
     input: &mut [u8; INPUT],
@@ -468,15 +417,25 @@ fn run(
     newer: &mut [u8; format::LONGEST_SHEET],
     buffer: &mut [u8; format::LONGEST_PACKET],
     out: &mut [u8; OUT],
-) {
-    let mut held = lines::Held::nothing();
-    for _ in 0..u64::MAX {
-        let step = lines::next_line(rt, b"gmti_editions: standard input", input, held);
-        if !write_next(rt, step.next, input, packet, older, newer, buffer, out) {
-            return;
-        }
-        held = step.held;
-    }
+) -> Result<(), Failed> {
+    lines::for_each(
+        rt,
+        b"gmti_editions: standard input",
+        input,
+        |line: Line<'_>|
+            requires { length_of line ≤ 262144 }
+        {
+            let n = match line {
+                Line::Whole(line) => answer(line, packet, older, newer, buffer, out),
+                Line::Cut(front) => put_cut(front, out),
+            };
+            streams::write_all(
+                rt,
+                b"gmti_editions: standard output is cut",
+                printing::front(out, n),
+            )
+        },
+    )
 }
 
 fn main(rt: HostRuntime) {
@@ -486,7 +445,8 @@ fn main(rt: HostRuntime) {
     let mut newer = [0u8; format::LONGEST_SHEET];
     let mut buffer = [0u8; format::LONGEST_PACKET];
     let mut out = [0u8; OUT];
-    run(
+    // Where a read or a write failed, that has been said.
+    let _ = run(
         &rt,
         &mut input,
         &mut packet,

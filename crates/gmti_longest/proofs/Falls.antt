@@ -20,9 +20,8 @@ use Rattle.mask.specs.Mask.{is_required, is_reserved, is_in, any_set, is_gap, is
 use Rattle.position.specs.Position.{is_latitude}
 use Rattle.format.specs.declared.Reading.{Reading}
 use Rattle.format.specs.declared.Area.{Area}
-use Rattle.format.specs.declared.Check.{Check}
-use Rattle.format.specs.declared.Check.TheVariants.{Passed}
-use Rattle.format.specs.declared.Answer.TheVariants.{Accepted}
+use Rattle.format.specs.Check.{Check, Passed}
+use Rattle.format.specs.Answer.{Accepted}
 use Rattle.format.specs.Packet.{Segment, s2, is_known}
 use Rattle.format.specs.Dwell.{mask_of, dwell_fields, D, target_count, targets_of, target_length, target_fields, area_of, latitude}
 use Rattle.format.specs.Edition.{as_edition, is_older}

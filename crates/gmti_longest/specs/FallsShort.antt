@@ -2,7 +2,7 @@
 -- Assumes nothing.
 use Rattle.std.specs.Prelude.{ℕ, ◌+◌, ◌*◌, ◌≤◌, ◌≡◌, true, ◌||◌, List, eqb, length}
 use Rattle.format.specs.Edition.{as_edition}
-use Rattle.format.specs.declared.Answer.TheVariants.{Accepted}
+use Rattle.format.specs.Answer.{Accepted}
 use Rattle.format.specs.Reader.{sheet, read}
 use Rattle.format.specs.Bound.{formula}
 use Rattle.gmti_longest.specs.Longest.{delta_packet}

@@ -2,11 +2,12 @@
 // bound.
 #![tactic(auto)]
 
-ghost use Rattle.std.specs.Prelude.{◌≡◌, ◌+◌, ◌*◌, ◌≤◌, length, take};
+ghost use Rattle.std.specs.Prelude.{◌≡◌, ◌+◌, ◌*◌, ◌≤◌, length, MatchOption};
 ghost use Rattle.std.proofs.lemmas.List.Edits.{sets};
 ghost use Rattle.gmti_longest.specs.Longest.{without_line_feed, asked, delta_packet, written};
 
 use std::io;
+use streams::Failed;
 
 // The packet's bytes in front of its targets: its header, the segment's, the mask, D2 to D11, D24 to D27. The bytes of each target, and the
 // most that fit.
@@ -19,28 +20,23 @@ const MOST: usize = (format::LONGEST_PACKET - FRONT) / EACH;
 // D2 to D11, D24 to D27, D32.4 and D32.5.
 const MASK: u64 = 0xFFC0_03C0_6000_0000;
 
-// How many bytes the input has without a line feed at its end.
-fn line_length(input: &[u8]) -> usize
-    ensures { (take result input.now ≡ without_line_feed input.now) × (result ≤ length input.now) }
+// The input but for a line feed at its end.
+fn without_line_feed(input: &[u8]) -> &[u8]
+    ensures { result.now ≡ without_line_feed input.now }
 {
-    let n = input.len();
-    if n == 0 {
-        return 0;
-    }
-    if input[n - 1] == b'\n' { n - 1 } else { n }
+    input.strip_suffix(b"\n").unwrap_or(input)
 }
 
-// The k that the input asks for, and 0 where it asks for none.
-fn asked(input: &[u8]) -> usize
-    ensures { (result ≡ asked input.now) × (result ≤ 16362) }
+// The k that the input asks for, if it asks for one.
+fn asked(input: &[u8]) -> Option<usize>
+    ensures { MatchOption result (asked input.now ≡ 0) (λ k. (k ≡ asked input.now) × ((1 ≤ k) × (k ≤ 16362))) }
 {
-    let n = line_length(input);
-    let word = &input[..n];
-    if !vectors::is_number(word) || word[0] == b'0' {
-        return 0;
+    let word = without_line_feed(input);
+    if word.starts_with(b"0") {
+        return None;
     }
-    let k = vectors::number(word) as usize;
-    if k <= MOST { k } else { 0 }
+    let k = vectors::number(word)? as usize;
+    if 1 <= k && k <= MOST { Some(k) } else { None }
 }
 
 // The packet with k targets, at the front of o; answers its length.
@@ -55,9 +51,9 @@ fn lay_out(k: usize, o: &mut [u8]) -> usize
     copies::copy_all(b"  \0  \0\0\0          \0\0\0\0\0\0\0\0\x02", o, 6);
     octets::put_u32(o, 33, (n - 32) as u32);
     octets::put_u64(o, 37, MASK);
-    copies::clear_all(o, 45, 5);
+    copies::clear(o, 45, 5);
     octets::put_u16(o, 50, k as u16);
-    copies::clear_all(o, 52, n - 52);
+    copies::clear(o, 52, n - 52);
     n
 }
 
@@ -67,41 +63,34 @@ fn answer(input: &[u8], o: &mut [u8]) -> usize
     ensures value { result ≡ length (written input.now) }
     ensures o_after { o.new ≡ sets o.old 0 (written input.now) }
 {
-    let k = asked(input);
-    if k == 0 {
-        return 0;
+    match asked(input) {
+        Some(k) => lay_out(k, o),
+        None => 0,
     }
-    lay_out(k, o)
 }
 
 // The first 7 bytes of an input decide what is written for it (specs/Input.antt), so no more are read.
 const INPUT: usize = 7;
 
-fn run(rt: &(impl io::Input + Print + Eprint), input: &mut [u8], packet: &mut [u8])
-    requires { (7 ≤ length input.old) × (65536 ≤ length packet.old) }
+fn run(
+    rt: &(impl io::Input + Print + Eprint),
+    input: &mut [u8],
+    packet: &mut [u8; format::LONGEST_PACKET],
+) -> Result<(), Failed>
+    requires { 7 ≤ length input.old }
 {
-    let read = streams::read_all(rt, b"gmti_longest: standard input", input);
-    let streams::Input::Read(n) = read else {
-        return;
-    };
-    let length = answer(printing::front(input, n), packet);
+    let n = streams::read_all(rt, b"gmti_longest: standard input", input)?;
+    let length = answer(&input[..n], packet);
     streams::write_all(
         rt,
         b"gmti_longest: standard output is cut",
         printing::front(packet, length),
-    );
-}
-
-fn run_in(
-    rt: &(impl io::Input + Print + Eprint),
-    input: &mut [u8; INPUT],
-    packet: &mut [u8; format::LONGEST_PACKET],
-) {
-    run(rt, input, packet);
+    )
 }
 
 fn main(rt: HostRuntime) {
     let mut input = [0u8; INPUT];
     let mut packet = [0u8; format::LONGEST_PACKET];
-    run_in(&rt, &mut input, &mut packet);
+    // Where a read or a write failed, that has been said.
+    let _ = run(&rt, &mut input, &mut packet);
 }

@@ -3,16 +3,18 @@
 use Prim.Native.Nat.{ℕ, ◌+◌, ◌≤◌}
 use native.Mathlib.Omega.{arith}
 use mathlib.Core.Path.{◌≡◌}
-use mathlib.Core.Bool.{Bool, true, false, and-eq-true_iff}
+use mathlib.Core.Bool.{Bool, true, false}
 use mathlib.Core.List.{List, [], ◌∷◌, ◌++◌}
-use borrow.Author.Tests.{leb-true}
-use lib.Dec.{leb}
+use borrow.Author.Tests.{lt-leb}
+use Rattle.std.specs.Result.{result_ok}
 use lib.ListN.{length, set}
 use lib.Seq.{sets}
 use Rattle.printing.specs.InnerPut.{Put}
 use Rattle.printing.proofs.Lines.{Laid, laid-join, laid-byte}
 use Rattle.vectors.specs.declared.Fault.TheVariants.{Number}
-use Rattle.vectors.specs.Vectors.{is_number, spelt, unread_line}
+use Rattle.vectors.proofs.Spellings.{number-some, number_missing}
+use Rattle.std.proofs.Common.{Option, Some, None, Result, Ok, Err, OkIff, MatchOption, le-leb, ◌<◌, refl, ◌∙◌}
+use Rattle.vectors.specs.Vectors.{number_of, spelt, unread_line}
 use Rattle.gmti_modes.specs.Line.{ascii, is_mode, system_text, new_text, mode_text, answer_of}
 
 -- a word of so many bytes at most, which may be known under another name
@@ -42,17 +44,19 @@ said-laid line l {text = text} h k =
 
 module _ (line : List ℕ) where
   -- whether a line is a mode's number
-  pub mode-is : {b : Bool} {n : ℕ} → b ≡ is_number line → b ≡ true → n ≡ spelt line 0 → leb n 255 ≡ is_mode line
+  pub mode-found : {E : Type 0} {n : ℕ} {r : Option ℕ} (q : Result ℕ E) → number_of line ≡ Some n → OkIff q (n < 256) n → r ≡ result_ok q
+      → MatchOption r (is_mode line ≡ false) (λ mode. (is_mode line ≡ true) × (mode ≡ spelt line 0))
   unfolding is_mode
-  mode-is e h k = rw (← e, h, k)
+  mode-found {n = n} (Ok m) f h e =
+      let i = number-some line f in
+      rw e (rw (i.0, le-leb (spelt line 0) 255 (omega (arith, i.1))) refl, h.1 ∙ i.1)
+  mode-found {n = n} (Err x) f h e =
+      let i = number-some line f in
+      rw (e, i.0, lt-leb (spelt line 0) 255 (omega (arith, i.1, h))) refl
 
-  pub no_number : {b : Bool} → b ≡ is_number line → b ≡ false → b ≡ is_mode line
+  pub mode_missing : number_of line ≡ None → is_mode line ≡ false
   unfolding is_mode
-  no_number e h = rw (← e, h)
-
-  pub mode-most : is_mode line ≡ true → spelt line 0 ≤ 255
-  unfolding is_mode
-  mode-most h = leb-true _ 255 ((and-eq-true_iff (is_number line) (leb (spelt line 0) 255)).0 h).1
+  mode_missing h = number_missing line 255 (omega arith) h
 
   -- the line that answers it
   pub mode-answer : {mode : ℕ} → is_mode line ≡ true → mode ≡ spelt line 0 → answer_of line ≡ line ++ (58 ∷ 32 ∷ []) ++ mode_text mode ++ (10 ∷ [])

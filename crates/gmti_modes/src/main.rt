@@ -2,45 +2,42 @@
 // Edition 3's, each with the system's own number, and whether the mode is new in Edition 3; or by what is wrong with the line.
 #![tactic(auto)]
 
-ghost use Rattle.std.specs.Prelude.{◌≡◌, ◌++◌, ◌+◌, ◌≤◌, ◌<◌, length};
+ghost use Rattle.std.specs.Prelude.{◌≡◌, ◌++◌, ◌+◌, ◌≤◌, true, false, length, MatchOption};
 ghost use Rattle.std.proofs.lemmas.List.Edits.{sets};
 ghost use Rattle.format.specs.Edition.{is_new_mode};
-ghost use Rattle.lines.specs.Lines.{NextWithin};
+ghost use Rattle.lines.specs.Lines.{length_of};
 ghost use Rattle.modes.specs.Modes.{lookup, system_of};
 ghost use Rattle.modes.specs.Tables.{name_of};
 ghost use Rattle.printing.specs.InnerPut.{Put};
-ghost use Rattle.gmti_modes.specs.InnerNames.{all_names};
+ghost use Rattle.vectors.specs.Vectors.{spelt};
 ghost use Rattle.gmti_modes.specs.Line.{ascii, is_mode, system_text, new_text, mode_text, answer_of};
 
+use lines::Line;
 use std::io;
-
-fn wide(x: u8) -> usize
-    ensures { (result ≡ x) × (result < 256) }
-{
-    x as usize
-}
-
-// The name of a system, of all names: each stands in 12 bytes, behind its length.
-fn name_in(names: &[u8], system: u8) -> &[u8]
-    requires { (names.now ≡ all_names) × (system ≤ 12) }
-    ensures { result.now ≡ ascii (name_of system) }
-{
-    let at = wide(system) * 12;
-    let from = at + 1;
-    let to = from + wide(names[at]);
-    &names[from..to]
-}
+use streams::Failed;
+use vectors::Fault;
 
 // The name of a system, in at most 11 bytes.
-fn put_name(o: &mut [u8], at: usize, system: u8) -> usize
-    requires { (system ≤ 12) × (at + 11 ≤ length o.old) }
-    ensures { Put 11 o.old at (ascii (name_of system)) result o.new }
+
+fn name(system: u8) -> &'static [u8]
+    requires { system ≤ 12 }
+    ensures { (result.now ≡ ascii (name_of system)) × (length result.now ≤ 11) }
 {
-    let name = name_in(
-        b"\x08Reserved   \x07Generic    \x0bJoint STARS\x09ASARS-AIP  \x07ASARS-2    \x04TUAV       \x05ARL-M      \x07HORIZON    \x05CRESO      \x05ASTOR      \x09Lynx I/II  \x0bGlobal Hawk\x05VADER      ",
-        system,
-    );
-    vectors::put_word(o, at, name)
+    match system {
+        1 => b"Generic",
+        2 => b"Joint STARS",
+        3 => b"ASARS-AIP",
+        4 => b"ASARS-2",
+        5 => b"TUAV",
+        6 => b"ARL-M",
+        7 => b"HORIZON",
+        8 => b"CRESO",
+        9 => b"ASTOR",
+        10 => b"Lynx I/II",
+        11 => b"Global Hawk",
+        12 => b"VADER",
+        _ => b"Reserved",
+    }
 }
 
 // And its number in parentheses, in at most 34 bytes together.
@@ -48,7 +45,7 @@ fn put_system(o: &mut [u8], at: usize, system: u8) -> usize
     requires { (system ≤ 12) × (at + 34 ≤ length o.old) }
     ensures { Put 34 o.old at (system_text system) result o.new }
 {
-    let p = put_name(o, at, system);
+    let p = vectors::put_word(o, at, name(system));
     let q = vectors::put_word(o, p, b" (");
     let r = printing::put_decimal(o, q, system as usize);
     vectors::put_word(o, r, b")")
@@ -86,11 +83,12 @@ fn put_mode(o: &mut [u8], at: usize, mode: u8) -> usize
     put_new(o, q, mode)
 }
 
-// Whether a line is a mode's number.
-fn is_mode(line: &[u8]) -> bool
-    ensures { result ≡ is_mode line.now }
+// The mode whose number a line is.
+fn mode_of(line: &[u8]) -> Option<u8>
+    ensures { MatchOption result (is_mode line.now ≡ false) (λ mode. (is_mode line.now ≡ true) × (mode ≡ spelt line.now 0)) }
 {
-    vectors::is_number(line) && vectors::number(line) <= 255
+    let n = vectors::number(line)?;
+    u8::try_from(n).ok()
 }
 
 // The line that answers a line, at the front of o; answers its length.
@@ -99,37 +97,13 @@ fn answer(line: &[u8], o: &mut [u8]) -> usize
     ensures value { (result ≡ length (answer_of line.now)) × (result ≤ length o.new) }
     ensures o_after { o.new ≡ sets o.old 0 (answer_of line.now) }
 {
-    if !is_mode(line) {
-        return vectors::put_unread(o, line, vectors::Fault::Number);
-    }
-    let mode = vectors::number(line) as u8;
+    let Some(mode) = mode_of(line) else {
+        return vectors::put_unread(o, line, Fault::Number);
+    };
     let p = vectors::put_name(o, line);
     let q = put_mode(o, p, mode);
     o[q] = b'\n';
     q + 1
-}
-
-fn write(rt: &(impl Print + Eprint), s: &[u8]) -> bool {
-    streams::write_all(rt, b"gmti_modes: standard output is cut", s)
-}
-
-// Answers what comes next, and whether to go on.
-fn write_next(rt: &(impl Print + Eprint), next: lines::Next, input: &[u8], out: &mut [u8]) -> bool
-    requires next_within { NextWithin (length input.now) next }
-    requires input_in_bounds { length input.now + 104 ≤ length out.old }
-{
-    match next {
-        lines::Next::Line(from, to) => {
-            let n = answer(&input[from..to], out);
-            write(rt, printing::front(out, n))
-        }
-        lines::Next::Long => {
-            let n = vectors::put_unread(out, input, vectors::Fault::Length);
-            write(rt, printing::front(out, n))
-        }
-        lines::Next::End => false,
-        lines::Next::Failed => false,
-    }
 }
 
 // The longest line that is read, with its end. The answer has the line, and at most 104 bytes behind it.
@@ -137,20 +111,34 @@ const INPUT: usize = 4096;
 
 const OUT: usize = INPUT + 104;
 
-// As in `streams`, the loop has more turns than any run uses up.
-fn run(rt: &(impl io::Input + Print + Eprint), input: &mut [u8; INPUT], out: &mut [u8; OUT]) {
-    let mut held = lines::Held::nothing();
-    for _ in 0..u64::MAX {
-        let step = lines::next_line(rt, b"gmti_modes: standard input", input, held);
-        if !write_next(rt, step.next, input, out) {
-            return;
-        }
-        held = step.held;
-    }
+fn run(
+    rt: &(impl io::Input + Print + Eprint),
+    input: &mut [u8; INPUT],
+    out: &mut [u8; OUT],
+) -> Result<(), Failed> {
+    lines::for_each(
+        rt,
+        b"gmti_modes: standard input",
+        input,
+        |line: Line<'_>|
+            requires { length_of line ≤ 4096 }
+        {
+            let n = match line {
+                Line::Whole(line) => answer(line, out),
+                Line::Cut(front) => vectors::put_unread(out, front, Fault::Length),
+            };
+            streams::write_all(
+                rt,
+                b"gmti_modes: standard output is cut",
+                printing::front(out, n),
+            )
+        },
+    )
 }
 
 fn main(rt: HostRuntime) {
     let mut input = [0u8; INPUT];
     let mut out = [0u8; OUT];
-    run(&rt, &mut input, &mut out);
+    // Where a read or a write failed, that has been said.
+    let _ = run(&rt, &mut input, &mut out);
 }

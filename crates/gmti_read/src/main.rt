@@ -8,6 +8,7 @@ ghost use Rattle.format.specs.Reader.{read};
 ghost use Rattle.gmti_read.specs.Printed.{printed_of};
 
 use std::io;
+use streams::Failed;
 
 // All that is printed of these bytes, at the front of out; answers its length.
 fn answer(packet: &[u8], sheet: &mut [u8], out: &mut [u8]) -> usize
@@ -19,37 +20,25 @@ fn answer(packet: &[u8], sheet: &mut [u8], out: &mut [u8]) -> usize
     printing::print(a, sheet, out)
 }
 
-// One byte more than the longest packet has tells that the input is longer, and row 2 refuses it.
-fn run(rt: &(impl io::Input + Print + Eprint), packet: &mut [u8], sheet: &mut [u8], out: &mut [u8])
-    requires { 96 + length sheet.old ≤ length out.old }
-{
-    let input = streams::read_all(rt, b"gmti_read: standard input", packet);
-    let streams::Input::Read(n) = input else {
-        return;
-    };
-    let k = answer(printing::front(packet, n), sheet, out);
-    streams::write_all(
-        rt,
-        b"gmti_read: standard output is cut",
-        printing::front(out, k),
-    );
-}
-
 // The sheet buffer that document 01 gives the program.
 const SHEET: usize = 65536;
 
-fn run_in(
+// One byte more than the longest packet has tells that the input is longer, and row 2 refuses it.
+fn run(
     rt: &(impl io::Input + Print + Eprint),
     packet: &mut [u8; format::LONGEST_PACKET + 1],
     sheet: &mut [u8; SHEET],
     out: &mut [u8; printing::LINE + SHEET],
-) {
-    run(rt, packet, sheet, out);
+) -> Result<(), Failed> {
+    let n = streams::read_all(rt, b"gmti_read: standard input", packet)?;
+    let k = answer(&packet[..n], sheet, out);
+    streams::write_all(rt, b"gmti_read: standard output is cut", &out[..k])
 }
 
 fn main(rt: HostRuntime) {
     let mut packet = [0u8; format::LONGEST_PACKET + 1];
     let mut sheet = [0u8; SHEET];
     let mut out = [0u8; printing::LINE + SHEET];
-    run_in(&rt, &mut packet, &mut sheet, &mut out);
+    // Where a read or a write failed, that has been said.
+    let _ = run(&rt, &mut packet, &mut sheet, &mut out);
 }

@@ -30,19 +30,13 @@ const H26: usize = 46;
 // The bytes of a range index or a Doppler index.
 const INDEX: u8 = 1;
 
-// A byte as a wider number, with its bound.
-fn wide(x: u8) -> u64
-    ensures { (result ≡ x) × (result ≤ 255) }
-{
-    x as u64
-}
-
 // The mask at the front of a body, or of a record's.
+#[tactic(auto, unfolding(octets::specs::Octets::be, crate::specs::Hrr::hrr_mask))]
 pub fn mask_of(b: &[u8]) -> u64
     requires { 5 ≤ length b.now }
     ensures { result ≡ hrr_mask b.now }
 {
-    (octets::get_u32(b, 0) as u64) * 4294967296 + wide(b[4]) * 16777216
+    u64::from_be_bytes([b[0], b[1], b[2], b[3], b[4], 0, 0, 0])
 }
 
 // The fields at fault, each at its bit.
@@ -99,7 +93,7 @@ pub fn fields_length(mask: u64) -> usize
 }
 
 // The scatterers of a segment: the bytes that the magnitude, the phase and the two indices of each take, and how many they are.
-#[derive(Clone, Copy)]
+#[derive(Clone, Copy, Debug, PartialEq, Eq)]
 pub struct Scatterers {
     pub magnitude: usize,
     pub phase: usize,
@@ -113,27 +107,34 @@ fn width_if(mask: u64, n: usize, w: u8) -> usize
     requires { (2 ≤ n) × (n ≤ 65) }
     ensures { (result ≡ taken mask n w) × (result ≤ 255) }
 {
-    if mask::has(mask, n) { w as usize } else { 0 }
+    if mask::has(mask, n) {
+        usize::from(w)
+    } else {
+        0
+    }
 }
 
 // The number in the two bytes at `at` where the mask announces field n, and else 0.
-fn number_if(b: &[u8], mask: u64, n: usize, at: usize) -> usize
+fn number_if(b: &[u8], mask: u64, n: usize, at: usize) -> u16
     requires { (2 ≤ n) × (n ≤ 65) × (announced mask n ≡ true → at + 2 ≤ length b.now) }
-    ensures { (result ≡ number_if mask n at b.now) × (result ≤ 65535) }
+    ensures { result ≡ number_if mask n at b.now }
 {
     if mask::has(mask, n) {
-        octets::get_u16(b, at) as usize
+        octets::get_u16(b, at)
     } else {
         0
     }
 }
 
 // How many there are by H6, H7 and H8, of which an absent one is 0.
-fn count_of(mask: u64, h6: usize, h7: usize, h8: usize) -> usize
-    requires { (h6 ≤ 65535) × (h7 ≤ 65535) × (h8 ≤ 65535) }
+fn count_of(mask: u64, h6: u16, h7: u16, h8: u16) -> usize
     ensures { (result ≡ cond (announced mask 6) h6 (h7 * h8)) × (result ≤ 4294836225) }
 {
-    if mask::has(mask, 6) { h6 } else { h7 * h8 }
+    if mask::has(mask, 6) {
+        usize::from(h6)
+    } else {
+        usize::from(h7) * usize::from(h8)
+    }
 }
 
 // The same with the widths: H25, H26 and those of the indices, where they are announced.
@@ -151,6 +152,7 @@ fn with_widths(mask: u64, h25: u8, h26: u8, count: usize) -> Scatterers
 }
 
 // By the mask and by H2 to H31 at full widths, which f begins with.
+#[tactic(auto, unfolding(octets::specs::Layout::total, octets::specs::Layout::value))]
 pub fn scatterers_of(mask: u64, f: &[u8]) -> Scatterers
     requires { Wide f.now }
     ensures { (result ≡ scatterers_of mask f.now) × Bounded result }
@@ -182,6 +184,7 @@ pub fn scatterers_in(b: &[u8], mask: u64, at: usize) -> Scatterers
 }
 
 // The bytes of a scatterer.
+#[tactic(auto, unfolding(octets::specs::Layout::total))]
 pub fn each_of(s: Scatterers) -> usize
     requires { Fitting s }
     ensures { (result ≡ total (widths_of s)) × (result ≤ 1020) }
@@ -190,9 +193,46 @@ pub fn each_of(s: Scatterers) -> usize
 }
 
 // The four widths as the digits of a number, by which a loop is chosen that knows them.
-pub fn pattern_of(s: Scatterers) -> usize
+fn pattern_of(s: Scatterers) -> usize
     requires { Narrow s }
     ensures { (digits result ≡ widths_of s) × NarrowDigits result }
 {
     s.magnitude * 1000 + s.phase * 100 + s.range * 10 + s.doppler
+}
+
+// What f does with that number to what is lent. For each pattern of widths that row 22 lets pass it is called with a constant: so the compiler
+// makes of it a loop that knows the widths, and tests none.
+// Kept: an arm for each pattern. The compiler has a constant only where one stands in the code, so that no loop over a table does the same.
+pub fn by_pattern<F: FnOnce(usize, &mut [u8])>(s: Scatterers, o: &mut [u8], f: F)
+    requires { Narrow s × ((n : ℕ) (lent : _) → digits n ≡ widths_of s → NarrowDigits n → lent.now ≡ o.old → F.pre f n lent) }
+    ensures { (n : ℕ) × (lent : _) × (left : _) × (digits n ≡ widths_of s) × NarrowDigits n × (lent.now ≡ o.old) × F.post f n lent tt left × (left.now ≡ o.new) }
+{
+    let n = pattern_of(s);
+    match n {
+        1000 => f(1000, o),
+        1001 => f(1001, o),
+        1010 => f(1010, o),
+        1011 => f(1011, o),
+        1100 => f(1100, o),
+        1101 => f(1101, o),
+        1110 => f(1110, o),
+        1111 => f(1111, o),
+        1200 => f(1200, o),
+        1201 => f(1201, o),
+        1210 => f(1210, o),
+        1211 => f(1211, o),
+        2000 => f(2000, o),
+        2001 => f(2001, o),
+        2010 => f(2010, o),
+        2011 => f(2011, o),
+        2100 => f(2100, o),
+        2101 => f(2101, o),
+        2110 => f(2110, o),
+        2111 => f(2111, o),
+        2200 => f(2200, o),
+        2201 => f(2201, o),
+        2210 => f(2210, o),
+        2211 => f(2211, o),
+        _ => f(n, o),
+    }
 }

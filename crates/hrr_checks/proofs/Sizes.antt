@@ -12,7 +12,7 @@ use Rattle.octets.specs.Octets.{between}
 use Rattle.octets.specs.Layout.{total}
 use Rattle.mask.specs.Fields.{announced_length}
 use Rattle.hrr.specs.Hrr.{hrr_mask, hrr_widths, hrr_fields, H, scatterer_count, scatterer_widths, hrr_size, is_hrr_size}
-use Rattle.format.specs.declared.Check.TheVariants.{Passed, Failed}
+use Rattle.format.specs.Check.{Passed, Failed}
 use Rattle.format.specs.Packet.{s2}
 use Rattle.format.specs.Rows.{first_row, hrr_rows}
 

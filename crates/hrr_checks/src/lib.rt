@@ -7,10 +7,10 @@ ghost use Rattle.octets.specs.Layout.{total};
 ghost use Rattle.mask.specs.Fields.{announced_length};
 ghost use Rattle.hrr.specs.Hrr.{hrr_mask, is_hrr_mask, hrr_widths, hrr_fields};
 ghost use Rattle.hrr.specs.InnerScatterers.{Headed, scatterers_of, widths_of, Narrow, Bounded};
-ghost use Rattle.format.specs.declared.Check.TheVariants.{Passed};
+ghost use Rattle.format.specs.Check.{Passed, check_of};
 ghost use Rattle.format.specs.Rows.{first_row, hrr_rows};
 
-use format::Check;
+use format::Fault;
 
 // Whether row 22 lets the widths pass: those of the magnitude and of the phase.
 fn are_widths(h25: u8, h26: u8) -> bool
@@ -21,34 +21,34 @@ fn are_widths(h25: u8, h26: u8) -> bool
 
 // Row 22 of a body with this mask, to which rows 9 and 21 do not apply. The counts are not gone through: their product with the widths is
 // compared with the size.
-fn size_check(b: &[u8], mask: u64) -> Check
+fn size_check(b: &[u8], mask: u64) -> Result<(), Fault>
     requires { (mask ≡ hrr_mask b.now) × (is_hrr_mask mask ≡ true) × (5 ≤ length b.now) }
-    ensures { result ≡ first_row (drop 2 (hrr_rows b.now)) }
+    ensures { check_of result ≡ first_row (drop 2 (hrr_rows b.now)) }
 {
     let start = hrr::MASK + hrr::fields_length(mask);
     if b.len() < start {
-        return Check::Failed(22, 0);
+        return Err(Fault::row(22));
     }
     let at = hrr::MASK + hrr::length_before_h25(mask);
     if !are_widths(b[at], b[at + 1]) {
-        return Check::Failed(22, 0);
+        return Err(Fault::row(22));
     }
     let s = hrr::scatterers_in(b, mask, at);
     if b.len() != start + s.count * hrr::each_of(s) {
-        return Check::Failed(22, 0);
+        return Err(Fault::row(22));
     }
-    Check::Passed
+    Ok(())
 }
 
-pub fn hrr_check(b: &[u8]) -> Check
-    ensures { result ≡ first_row (hrr_rows b.now) }
+pub fn hrr_check(b: &[u8]) -> Result<(), Fault>
+    ensures { check_of result ≡ first_row (hrr_rows b.now) }
 {
     if b.len() < hrr::MASK {
-        return Check::Failed(9, 0);
+        return Err(Fault::row(9));
     }
     let mask = hrr::mask_of(b);
     if !hrr::is_mask(mask) {
-        return Check::Failed(21, 0);
+        return Err(Fault::row(21));
     }
     size_check(b, mask)
 }

@@ -42,7 +42,7 @@ const D28_TO_30: u64 = 0x0000_0038_0000_0000;
 pub fn missing(mask: u64, set: u64) -> u64
     ensures { (n : ℕ) → announced result n ≡ (announced set n && not (announced mask n)) }
 {
-    (mask & set) ^ set
+    set & !mask
 }
 
 // The fields of the set that the mask has.
@@ -75,12 +75,11 @@ pub fn has(mask: u64, n: usize) -> bool
 fn doubled(mask: u64) -> u64
     ensures { (n : ℕ) → 2 ≤ n → n < 66 → announced result n ≡ is_doubled mask n }
 {
-    if has(mask, 33) {
-        if has(mask, 34) {
-            return common(mask, D32_4_AND_5);
-        }
+    if has(mask, 33) && has(mask, 34) {
+        common(mask, D32_4_AND_5)
+    } else {
+        0
     }
-    0
 }
 
 // What holds in version 1 alone.
@@ -110,11 +109,12 @@ fn faults(mask: u64, version: u8) -> u64
 }
 
 // The lowest field at fault, and 0 where none is.
+// Kept: 0 for none, here and in the next: `lowest_fault` and `new_in_mask` of specs/, which rows 11 and 15 name by `naming`, say 0 for none.
 pub fn lowest_fault(mask: u64, version: u8) -> u32
     ensures { result ≡ lowest_fault version mask }
 {
     let w = faults(mask, version);
-    if w == 0 { 0 } else { 2 + u64::leading_zeros(w) }
+    if w == 0 { 0 } else { 2 + w.leading_zeros() }
 }
 
 // The field of what the mask has that is new in Edition 3, and 0 where it has nothing new.
@@ -123,12 +123,13 @@ pub fn new_in_mask(mask: u64) -> u32
 {
     let w = gaps(mask, D28_TO_30);
     if w != 0 {
-        return 2 + u64::leading_zeros(w);
+        return 2 + w.leading_zeros();
     }
     if has(mask, 49) { 49 } else { 0 }
 }
 
 // Whether the mask announces positions of targets.
+#[tactic(auto, unfolding(crate::specs::Mask::is_placed))]
 pub fn is_placed(mask: u64) -> bool
     ensures { result ≡ is_placed mask }
 {
@@ -168,13 +169,7 @@ pub fn four(mask: u64, n: usize, lengths: &[u8; 16]) -> usize
     ensures { (result ≡ get_or lengths.now (mask / 2 ^ (62 - n) % 16) 0) × (result < 256) }
 {
     let i = ((mask >> (62 - n)) & 15) as usize;
-    wide(lengths[i])
-}
-
-fn wide(x: u8) -> usize
-    ensures { (result ≡ x) × (result < 256) }
-{
-    x as usize
+    usize::from(lengths[i])
 }
 
 // The bytes of the announced fields of a dwell in front of D24: where D24 stands behind the mask. D2 to D9 are required, and take 23.
@@ -225,5 +220,5 @@ pub fn target_length(mask: u64) -> usize
 pub fn dwell_size(mask: u64, targets: u16) -> usize
     ensures { result ≡ dwell_size mask targets }
 {
-    13 + dwell_length(mask) + (targets as usize) * target_length(mask)
+    13 + dwell_length(mask) + usize::from(targets) * target_length(mask)
 }

@@ -7,8 +7,8 @@ use mathlib.Core.Bool.{true}
 use mathlib.Core.List.{List}
 use borrow.Author.Tests.{ne_eqb}
 use lib.ListN.{get_or}
-use Rattle.modes.specs.declared.Lookup.TheVariants.{System, NoEdition}
-use Rattle.modes.specs.Modes.{Run, edition1, edition3, system_number, lookup}
+use Rattle.std.specs.Prelude.{Ok}
+use Rattle.modes.specs.Modes.{Run, edition1, edition3, system_number, no_edition, lookup}
 use Rattle.modes.specs.InnerEntries.{are_entries}
 use Rattle.modes.proofs.Every.{each-equal}
 use Rattle.modes.proofs.Tables.{mode-tables}
@@ -20,14 +20,14 @@ entry-is table entries mode l h = each-equal 256 (λ k. get_or entries k 0) (sys
 
 -- what is found in each table, and that there is no other
 module _ (edition mode : ℕ) where
-  pub found-1 : {r : ℕ} → edition ≡ 1 → mode < 256 → r ≡ system_number edition1 mode → (System r ≡ lookup edition mode) × (r ≤ 12)
+  pub found-1 : {r : ℕ} → edition ≡ 1 → mode < 256 → r ≡ system_number edition1 mode → (Ok r ≡ lookup edition mode) × (r ≤ 12)
   unfolding lookup
   found-1 e l h = (rw (e, h), omega (arith, h, mode-tables.of_edition1.within mode l))
 
-  pub found-3 : {r : ℕ} → edition ≡ 3 → mode < 256 → r ≡ system_number edition3 mode → (System r ≡ lookup edition mode) × (r ≤ 12)
+  pub found-3 : {r : ℕ} → edition ≡ 3 → mode < 256 → r ≡ system_number edition3 mode → (Ok r ≡ lookup edition mode) × (r ≤ 12)
   unfolding lookup
   found-3 e l h = (rw (e, h), omega (arith, h, mode-tables.of_edition3.within mode l))
 
-  pub found_none : (edition ≡ 1 → ⊥) → (edition ≡ 3 → ⊥) → NoEdition ≡ lookup edition mode
+  pub found_none : (edition ≡ 1 → ⊥) → (edition ≡ 3 → ⊥) → no_edition ≡ lookup edition mode
   unfolding lookup
   found_none a b = rw (ne_eqb edition 1 a, ne_eqb edition 3 b)

@@ -1,11 +1,10 @@
 -- Which system a radar mode belongs to (document 02, A6): table 2-7.2 of documents 000 and 003, as they print it, and the lookup.
 -- Assumes nothing.
-use Rattle.std.specs.Prelude.{ℕ, suc, cond, List, [], ◌∷◌, eqb}
+use Rattle.std.specs.Prelude.{ℕ, suc, cond, List, [], ◌∷◌, Result, Ok, Err, eqb}
 use Prim.Native.String.{String}
 use lib.Text.{eqt}
 use Rattle.octets.specs.Octets.{between}
-use Rattle.modes.specs.declared.Lookup.{Lookup}
-use Rattle.modes.specs.declared.Lookup.TheVariants.{System, NoEdition}
+use Rattle.modes.specs.declared.NoEdition.{NoEdition}
 
 -- lines of the table, one behind another, that have the same entry under SYSTEM: the values from the first to the last
 pub record Run : Type 0 where
@@ -100,17 +99,21 @@ place_from k (x ∷ xs) name = cond (eqt x name) k (place_from (suc k) xs name)
 unfoldable pub system_number : List Run → ℕ → ℕ
 system_number table mode = place_from 1 systems (system_in table mode)
 
+-- the refusal
+abbrev pub no_edition : Result ℕ NoEdition
+no_edition = Err (record {})
+
 -- "A lookup takes edition and mode." "when the edition asked for is neither 1 nor 3, as the lookup's only refusal"
-unfoldable pub lookup : ℕ → ℕ → Lookup
+unfoldable pub lookup : ℕ → ℕ → Result ℕ NoEdition
 lookup edition mode =
-    cond (eqb edition 1) (System (system_number edition1 mode))
-    (cond (eqb edition 3) (System (system_number edition3 mode)) NoEdition)
+    cond (eqb edition 1) (Ok (system_number edition1 mode))
+    (cond (eqb edition 3) (Ok (system_number edition3 mode)) no_edition)
 
 -- the number of each answer and its system: "23, with system 0"
-abbrev pub number_of : Lookup → ℕ
-number_of (System system) = 0
-number_of NoEdition = 23
+abbrev pub number_of : Result ℕ NoEdition → ℕ
+number_of (Ok system) = 0
+number_of (Err refusal) = 23
 
-abbrev pub system_of : Lookup → ℕ
-system_of (System system) = system
-system_of NoEdition = 0
+abbrev pub system_of : Result ℕ NoEdition → ℕ
+system_of (Ok system) = system
+system_of (Err refusal) = 0

@@ -1,5 +1,5 @@
 // Table 2-7.2 of Edition 1: the number of the system that each radar mode is given to, with the mode beside it; 0 where it is given to none.
-pub const SYSTEMS: [u8; 256] = [
+pub static SYSTEMS: [u8; 256] = [
     1, // 0: Generic
     1, // 1
     1, // 2

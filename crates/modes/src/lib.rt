@@ -8,64 +8,42 @@ ghost use Rattle.modes.specs.InnerEntries.{are_entries};
 mod edition_1;
 mod edition_3;
 
-// The answer of a lookup. specs/Modes.antt states the number and the system of each case.
-#[derive(Clone, Copy)]
-pub enum Lookup {
-    // The number of the system that the edition's table gives the mode, 1 to 12; 0 where it gives it to none.
-    System(u8),
-    // The edition is neither 1 nor 3.
-    NoEdition,
-}
+// The refusal of a lookup: the edition is neither 1 nor 3.
+#[derive(Clone, Copy, Debug, PartialEq, Eq)]
+pub struct NoEdition;
 
 // The entry for a mode: of entries that are those of a table, the number that it gives the mode.
 fn entry(entries: &[u8; 256], mode: u8) -> u8
     ensures { (table : List Run) → are_entries table entries.now ≡ true → result ≡ system_number table mode }
 {
-    entries[mode as usize]
+    entries[usize::from(mode)]
 }
 
-// The tables have functions of their own, since a table is laid out anew in each call of the function that names it.
-fn system_in_edition_1(mode: u8) -> u8
-    ensures { result ≡ system_number edition1 mode }
-{
-    entry(&edition_1::SYSTEMS, mode)
-}
-
-fn system_in_edition_3(mode: u8) -> u8
-    ensures { result ≡ system_number edition3 mode }
-{
-    entry(&edition_3::SYSTEMS, mode)
-}
-
-// The system of a mode in an edition's table.
-pub fn mode_system(edition: u32, mode: u8) -> Lookup
+// The number of the system that an edition's table gives the mode, 1 to 12; 0 where it gives it to none.
+// Kept: the 0, which `gmti_mode_system` stores for C, and which `system_number` says.
+pub fn mode_system(edition: u32, mode: u8) -> Result<u8, NoEdition>
     ensures { (result ≡ lookup edition mode) × (system_of result ≤ 12) }
 {
-    if edition == 1 {
-        return Lookup::System(system_in_edition_1(mode));
+    match edition {
+        1 => Ok(entry(&edition_1::SYSTEMS, mode)),
+        3 => Ok(entry(&edition_3::SYSTEMS, mode)),
+        _ => Err(NoEdition),
     }
-    if edition == 3 {
-        return Lookup::System(system_in_edition_3(mode));
-    }
-    Lookup::NoEdition
 }
 
 // The number of an answer: 0, or 23 where it is a refusal.
-pub fn number_of(l: Lookup) -> u32
-    ensures { result ≡ number_of l }
+pub fn number_of(found: Result<u8, NoEdition>) -> u32
+    ensures { result ≡ number_of found }
 {
-    match l {
-        Lookup::System(_) => 0,
-        Lookup::NoEdition => 23,
+    match found {
+        Ok(_) => 0,
+        Err(NoEdition) => 23,
     }
 }
 
 // The system of an answer: 0 in a refusal.
-pub fn system_of(l: Lookup) -> u8
-    ensures { result ≡ system_of l }
+pub fn system_of(found: Result<u8, NoEdition>) -> u8
+    ensures { result ≡ system_of found }
 {
-    match l {
-        Lookup::System(system) => system,
-        Lookup::NoEdition => 0,
-    }
+    found.unwrap_or(0)
 }

@@ -4,3 +4,4 @@ pub mod Layouts
 pub mod ByteLists
 pub mod Parts
 pub mod Computed
+pub mod Machine

@@ -1,28 +1,15 @@
--- The range of a latitude, from -2^31 to 2^31, as two tests and as a bound on the size.
+-- The range of a latitude, from -2^31 to 2^31, as a bound on the size.
 -- Assumes nothing.
-use mathlib.Core.Path.{◌≡◌, refl, sym, ◌∙◌}
-use mathlib.Core.Bool.{true, false, true≢false}
-use Prim.Native.Nat.{suc, ◌+◌, ◌*◌, ◌^◌, ◌≤◌}
+use mathlib.Core.Path.{◌≡◌}
+use mathlib.Core.Bool.{true}
+use Prim.Native.Nat.{◌+◌, ◌*◌, ◌^◌, ◌≤◌}
 use native.Mathlib.Nat.{le_refl}
 use native.Mathlib.Omega.{arith}
-use borrow.Author.Tests.{leb-true, leb-false, le-leb, lt-leb}
-use lib.IntN.{ℤ, pos, negsuc, nat_abs, ◌+ℤ◌, ◌*ℤ◌}
-use lib.Signed.{le_z}
+use borrow.Author.Tests.{leb-true, le-leb}
+use lib.IntN.{ℤ, nat_abs, ◌+ℤ◌, ◌*ℤ◌}
 use Rattle.position.specs.Position.{latitude_sum, is_latitude}
 use Rattle.position.specs.InnerAlways.{is_always_latitude}
 use Rattle.position.proofs.Size.{abs-add, mul-sized}
-
--- below the least latitude there is none, so that the first test says no for both
-pub below-least : (z : ℤ) → le_z (negsuc 2147483647) z ≡ false → le_z (negsuc 2147483647) z ≡ is_latitude z
-unfolding is_latitude
-below-least (pos a) t = absurd (true≢false t)
-below-least (negsuc a) t = t ∙ sym (lt-leb (suc a) (2 ^ 31) (omega (arith, leb-false a 2147483647 t)))
-
--- from there on the greatest decides
-pub from-least : (z : ℤ) → le_z (negsuc 2147483647) z ≡ true → le_z z (pos 2147483648) ≡ is_latitude z
-unfolding is_latitude
-from-least (pos a) t = refl
-from-least (negsuc a) t = sym (le-leb (suc a) (2 ^ 31) (omega (arith, leb-true a 2147483647 t)))
 
 -- the size of a latitude
 pub latitude-size : (z : ℤ) → is_latitude z ≡ true → nat_abs z ≤ 2 ^ 31

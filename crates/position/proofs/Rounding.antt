@@ -1,38 +1,18 @@
 -- Division toward zero of a number moved half a divisor away from zero is rounding to the nearest, a half away from zero.
 -- Assumes nothing.
-use mathlib.Core.Path.{◌≡◌, refl, sym, ap, ap₂, ◌∙◌, subst}
-use mathlib.Core.Bool.{true, false, true≢false}
+use mathlib.Core.Path.{◌≡◌, sym, ap, ap₂, ◌∙◌, subst}
 use Prim.Native.Nat.{ℕ, suc, ◌+◌, ◌*◌, ◌/◌, ◌^◌, ◌≤◌, ◌<◌}
 use native.Mathlib.Nat.{le_refl, div-add-mod, mod-lt}
 use native.Mathlib.Omega.{arith}
-use borrow.Author.Tests.{ltb-true, eq-eqb, ne_eqb}
-use lib.Dec.{ltb}
+use borrow.Author.Tests.{eq-eqb, ne_eqb}
 use lib.IntN.{ℤ, pos, negsuc, neg_ℤ, nat_abs, ◌+ℤ◌, ◌*ℤ◌}
-use lib.Signed.{lt_z, quot_z}
+use lib.Signed.{quot_z}
 use mir.Syntax.{w32, w64}
 use mir.Val.{SFits, to_z, of_z}
 use mir.Facts.{to_z-of_z}
 use Rattle.position.proofs.Size.{abs-negℤ, abs-add, mul-sized, sized}
 use Rattle.position.specs.Position.{nearest, rounded, latitude_micro, full_circle, longitude_micro}
 use Rattle.position.specs.InnerHalf.{half_away}
-
--- no natural number is below zero
-below-zero : {P : Type 0} (n : ℕ) → ltb n 0 ≡ true → P
-below-zero n t = absurd (never (ltb-true n 0 t))
-  where
-    never : n < 0 → ⊥
-    never h = omega arith
-
--- the choice of the sign
-pub half-neg : (z : ℤ) → lt_z z (pos 0) ≡ true → negsuc 8388607 ≡ half_away z
-unfolding half_away
-half-neg (pos n) t = below-zero n t
-half-neg (negsuc n) t = refl
-
-pub half_pos : (z : ℤ) → lt_z z (pos 0) ≡ false → pos 8388608 ≡ half_away z
-unfolding half_away
-half_pos (pos n) t = refl
-half_pos (negsuc n) t = absurd (true≢false t)
 
 -- the division is toward zero, so with half a divisor of the number's own sign it rounds
 pub round-away : (z : ℤ) → quot_z (z +ℤ half_away z) (pos 16777216) ≡ rounded z (2 ^ 24)

@@ -12,8 +12,7 @@ use Rattle.octets.proofs.Laws.{sets-sets}
 use Rattle.octets.specs.Octets.{be, signed}
 use Rattle.octets.specs.Layout.{total}
 use Rattle.mask.specs.Fields.{target_widths}
-use Rattle.format.specs.declared.Answer.{Answer}
-use Rattle.format.specs.declared.Answer.TheVariants.{Accepted, Refused}
+use Rattle.format.specs.Answer.{Answer, Accepted, Refused}
 use Rattle.printing.specs.Printing.{decimal, signed_decimal, spaced, answer_text, target_line}
 use Rattle.printing.specs.InnerPut.{Put}
 use Rattle.printing.proofs.Digits.{decimal-one, decimal-more, decimal-fits}

@@ -9,8 +9,7 @@ use native.Mathlib.Omega.{arith}
 use borrow.Rule.Slice.PartMut.{mid_len}
 use lib.ListN.{length, take, drop, length-take}
 use lib.Seq.{sets}
-use Rattle.format.specs.declared.Answer.{Answer}
-use Rattle.format.specs.declared.Answer.TheVariants.{Accepted, Refused}
+use Rattle.format.specs.Answer.{Answer, Accepted, Refused}
 use Rattle.format.specs.Sheet.{body_length}
 use Rattle.format.specs.Writer.{Listed, listed}
 use Rattle.sheet_walk.proofs.Places.{WholeAt, cut_at}

@@ -5,8 +5,7 @@ use Rattle.std.specs.Prelude.{ℕ, zero, suc, ◌+◌, ◌/◌, ◌%◌, cond, L
 use Rattle.octets.specs.Octets.{be, signed}
 use Rattle.octets.specs.Layout.{total}
 use Rattle.mask.specs.Fields.{target_widths}
-use Rattle.format.specs.declared.Answer.{Answer}
-use Rattle.format.specs.declared.Answer.TheVariants.{Accepted, Refused}
+use Rattle.format.specs.Answer.{Answer, Accepted, Refused}
 use Rattle.format.specs.Sheet.{Record}
 use Rattle.format.specs.Writer.{listed}
 

@@ -3,12 +3,13 @@
 
 ghost use Rattle.std.specs.Prelude.{◌≡◌, [], ◌∷◌, ◌+◌, ◌≤◌, ◌<◌, length, take};
 ghost use Rattle.std.proofs.lemmas.List.Edits.{sets};
+ghost use Rattle.format.specs.Answer.{answer_of};
 ghost use Rattle.format.specs.Sheet.{body_length};
 ghost use Rattle.format.specs.Writer.{listed};
 ghost use Rattle.printing.specs.Printing.{decimal, signed_decimal, spaced, answer_text, answer_line, target_line, record_line, target_lines, printed};
 ghost use Rattle.printing.specs.InnerPut.{Put};
 
-use format::{Answer, TargetRecord};
+use format::{Counts, Refusal, TargetRecord};
 use sheet_walk::Place;
 
 // Room for the line of an answer.
@@ -56,30 +57,30 @@ fn put_three(o: &mut [u8], at: usize, a: usize, b: usize, c: usize) -> usize
 }
 
 // An answer without the end of its line, in at most 86 bytes.
-pub fn put_answer(o: &mut [u8], at: usize, a: Answer) -> usize
+pub fn put_answer(o: &mut [u8], at: usize, a: Result<Counts, Refusal>) -> usize
     requires { at + 86 ≤ length o.old }
-    ensures value { (result ≡ at + length (answer_text a)) × (result ≤ at + 86) }
-    ensures o_after { o.new ≡ sets o.old at (answer_text a) }
+    ensures value { (result ≡ at + length (answer_text (answer_of a))) × (result ≤ at + 86) }
+    ensures o_after { o.new ≡ sets o.old at (answer_text (answer_of a)) }
 {
     match a {
-        Answer::Accepted(segments, dwells, targets, length) => {
+        Ok(counts) => {
             o[at] = b'o';
             o[at + 1] = b'k';
-            let p = put_three(o, at + 2, segments, dwells, targets);
-            put_spaced(o, p, length)
+            let p = put_three(o, at + 2, counts.segments, counts.dwells, counts.targets);
+            put_spaced(o, p, counts.length)
         }
-        Answer::Refused(number, segment, field) => {
+        Err(refusal) => {
             o[at] = b'n';
             o[at + 1] = b'o';
-            put_three(o, at + 2, number, segment, field)
+            put_three(o, at + 2, refusal.number, refusal.segment, refusal.field)
         }
     }
 }
 
-pub fn answer_line(o: &mut [u8], a: Answer) -> usize
+pub fn answer_line(o: &mut [u8], a: Result<Counts, Refusal>) -> usize
     requires { 96 ≤ length o.old }
-    ensures value { (result ≡ length (answer_line a)) × (result ≤ 96) }
-    ensures o_after { o.new ≡ sets o.old 0 (answer_line a) }
+    ensures value { (result ≡ length (answer_line (answer_of a))) × (result ≤ 96) }
+    ensures o_after { o.new ≡ sets o.old 0 (answer_line (answer_of a)) }
 {
     let p = put_answer(o, 0, a);
     o[p] = b'\n';
@@ -92,7 +93,7 @@ fn put_signed(o: &mut [u8], at: usize, z: i32) -> usize
 {
     if z < 0 {
         o[at] = b'-';
-        put_decimal(o, at + 1, (-1 - z) as usize + 1)
+        put_decimal(o, at + 1, z.unsigned_abs() as usize)
     } else {
         put_decimal(o, at, z as usize)
     }
@@ -148,18 +149,18 @@ fn target_lines(o: &mut [u8], start: usize, x: &[u8]) -> usize
 pub fn front(s: &[u8], n: usize) -> &[u8]
     ensures { result.now ≡ take n s.now }
 {
-    if n <= s.len() { &s[..n] } else { s }
+    &s[..n.min(s.len())]
 }
 
-pub fn print(a: Answer, sheet: &[u8], o: &mut [u8]) -> usize
+pub fn print(a: Result<Counts, Refusal>, sheet: &[u8], o: &mut [u8]) -> usize
     requires { 96 + length sheet.now ≤ length o.old }
-    ensures value { result ≡ length (printed a sheet.now) }
-    ensures o_after { o.new ≡ sets o.old 0 (printed a sheet.now) }
+    ensures value { result ≡ length (printed (answer_of a) sheet.now) }
+    ensures o_after { o.new ≡ sets o.old 0 (printed (answer_of a) sheet.now) }
     ensures upper_bound { result ≤ 96 + length sheet.now }
 {
     let p = answer_line(o, a);
     match a {
-        Answer::Accepted(_, _, _, length) => target_lines(o, p, front(sheet, length)),
-        Answer::Refused(..) => p,
+        Ok(counts) => target_lines(o, p, front(sheet, counts.length)),
+        Err(_) => p,
     }
 }

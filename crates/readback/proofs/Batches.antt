@@ -11,7 +11,7 @@ use lib.Seq.{sets, drop-drop}
 use Rattle.octets.proofs.Parts.{tail-is}
 use Rattle.format.specs.declared.Area.{Area}
 use Rattle.format.specs.Dwell.{target_length}
-use Rattle.format.specs.declared.Check.TheVariants.{Passed}
+use Rattle.format.specs.Check.{Passed}
 use Rattle.octets.specs.Layout.{total}
 use Rattle.format.specs.Sheet.{Record, target_records, scatterer_records, record_bytes}
 use Rattle.format.specs.Rows.{first_row, targets_rows}

@@ -16,13 +16,10 @@ use Rattle.octets.proofs.Layouts.{sets_over}
 use Rattle.octets.proofs.Parts.{part_filled}
 use Rattle.format.specs.declared.Settings.{Settings}
 use Rattle.format.specs.declared.Reading.{Reading}
-use Rattle.format.specs.declared.Check.{Check}
-use Rattle.format.specs.declared.Check.TheVariants.{Passed, Failed}
-use Rattle.format.specs.declared.Answer.{Answer}
-use Rattle.format.specs.declared.Answer.TheVariants.{Accepted, Refused}
+use Rattle.format.specs.Check.{Check, Passed, Failed}
+use Rattle.format.specs.Answer.{Answer, Accepted, Refused, outcome, left_by}
 use Rattle.format.specs.Sheet.{header_record, record_bytes}
 use Rattle.format.specs.Lengths.{record_length}
-use Rattle.format.specs.Answer.{outcome, left_by}
 use Rattle.format.specs.Rows.{first_row, header_rows}
 use Rattle.format.specs.Reader.{dwells_in, reading_of, parsed, sheet, segments_answer, reading_answer, read}
 use Rattle.format.proofs.Acceptance.{no-refusal, same_length, Acceptable, answer_of, accepted-only, read-when}

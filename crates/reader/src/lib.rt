@@ -3,12 +3,12 @@
 
 ghost use Rattle.std.specs.Prelude.{◌≡◌, [], ◌≤◌, length};
 ghost use Rattle.std.proofs.lemmas.List.Edits.{sets};
-ghost use Rattle.format.specs.Answer.{outcome};
+ghost use Rattle.format.specs.Answer.{answer_of, outcome};
 ghost use Rattle.format.specs.Edition.{as_edition};
 ghost use Rattle.format.specs.Reader.{sheet as sheetOf, reading_answer, check as checkOutcome, read as readOutcome};
 ghost use Rattle.segments.specs.InnerWalk.{Checked, bytes_of, CheckedAll, CheckedPacket, all_bytes};
 
-use format::{Answer, Check};
+use format::{Counts, Refusal};
 
 // The records of a segment that is checked, by its type.
 fn lay_out(r: format::Reading, segment_type: u8, b: &[u8], o: &mut [u8])
@@ -61,12 +61,10 @@ fn packet_records(r: format::Reading, l: &[u8], o: &mut [u8])
 }
 
 // Rows 1 to 15, 21 and 22 of the packet, with no sheet lent: the counts, and the length that its sheet has.
-fn check_with(settings: format::Settings, packet: &[u8]) -> Answer
-    ensures { result ≡ reading_answer settings packet.now (length (sheetOf settings packet.now)) }
+fn check_with(settings: format::Settings, packet: &[u8]) -> Result<Counts, Refusal>
+    ensures { answer_of result ≡ reading_answer settings packet.now (length (sheetOf settings packet.now)) }
 {
-    if let Check::Failed(number, field) = checks::header_check(settings, packet) {
-        return Answer::Refused(number, 0, field);
-    }
+    checks::header_check(settings, packet).map_err(|fault| fault.in_segment(0))?;
     let r = checks::reading_of(settings, packet);
     segments::check(r, &packet[format::HeaderRecord::LEN..])
 }
@@ -86,32 +84,27 @@ fn set_out(settings: format::Settings, packet: &[u8], sheet: &mut [u8])
 }
 
 // The sheet set out where it is lent enough. Nothing is written before every row has been looked at.
-fn read_with(settings: format::Settings, packet: &[u8], sheet: &mut [u8]) -> Answer
-    ensures { outcome result sheet.new ≡ readOutcome settings packet.now sheet.old }
+fn read_with(settings: format::Settings, packet: &[u8], sheet: &mut [u8]) -> Result<Counts, Refusal>
+    ensures { outcome (answer_of result) sheet.new ≡ readOutcome settings packet.now sheet.old }
 {
-    let answer = check_with(settings, packet);
-    match answer {
-        Answer::Refused(..) => answer,
-        Answer::Accepted(_, _, _, length) => {
-            if sheet.len() < length {
-                return Answer::Refused(16, 0, 0);
-            }
-            set_out(settings, packet, sheet);
-            answer
-        }
+    let counts = check_with(settings, packet)?;
+    if sheet.len() < counts.length {
+        return Err(Refusal::row(16));
     }
+    set_out(settings, packet, sheet);
+    Ok(counts)
 }
 
 // The answer of the packet read as this edition, with no sheet lent.
-pub fn check(edition: u32, packet: &[u8]) -> Answer
-    ensures { outcome result [] ≡ checkOutcome (as_edition edition) packet.now }
+pub fn check(edition: u32, packet: &[u8]) -> Result<Counts, Refusal>
+    ensures { outcome (answer_of result) [] ≡ checkOutcome (as_edition edition) packet.now }
 {
     check_with(format::Settings { edition }, packet)
 }
 
 // Reads the packet as this edition, and sets it out on the lent sheet.
-pub fn read(edition: u32, packet: &[u8], sheet: &mut [u8]) -> Answer
-    ensures { outcome result sheet.new ≡ readOutcome (as_edition edition) packet.now sheet.old }
+pub fn read(edition: u32, packet: &[u8], sheet: &mut [u8]) -> Result<Counts, Refusal>
+    ensures { outcome (answer_of result) sheet.new ≡ readOutcome (as_edition edition) packet.now sheet.old }
 {
     read_with(format::Settings { edition }, packet, sheet)
 }

@@ -6,7 +6,7 @@ use Prim.Native.Nat.{ℕ, zero, suc, ◌+◌, ◌-◌, ◌*◌, ◌≤◌}
 use native.Mathlib.Nat.{zero-add, suc-add, zero-mul, suc-mul}
 use native.Mathlib.Omega.{arith}
 use lib.ListN.{length, take, drop}
-use lib.Seq.{sets, drop-drop}
+use lib.Seq.{sets, drop-drop, length-take-le}
 use borrow.Rule.Slice.PartMut.{mid_of, put_mid}
 use Rattle.octets.specs.Layout.{pad}
 use Rattle.octets.proofs.Laws.{then}
@@ -14,6 +14,10 @@ use Rattle.octets.proofs.Layouts.{pad-take, pad-same}
 use Rattle.octets.proofs.Parts.{tail-is, part_filled}
 use Rattle.format.specs.Sheet.{Record, body_length, record_of, record_bytes}
 use Rattle.format.proofs.Lengths.{bytes-append}
+
+-- a part of a slice that is cut to a length has it
+pub cut : (n : ℕ) (b : List ℕ) → n ≤ length b → n ≡ length (take n b)
+cut n b h = sym (length-take-le n b h)
 
 -- a kind stored, and behind it the bytes v of the body, are the record
 pub record-laid : (kind : ℕ) (b v l : List ℕ) {m w : List ℕ}

@@ -1,6 +1,7 @@
 // The records of a sheet that are laid out from bytes at constant places: a filler for each gets the sheet from its place on. What is copied is
 // cut to the length that the record has for it, which the compiler so knows.
-#![tactic(auto)]
+// Kept: a length is cast by `as`, which is proved to lose nothing; `try_from` answers an `Err` here that there never is.
+#![tactic(auto, using(crate::proofs::Laid::cut), unfolding(format::specs::Sheet::body_length))]
 
 ghost use Rattle.std.specs.Prelude.{◌≡◌, cond, [], ◌∷◌, ◌++◌, ◌+◌, ◌-◌, ◌*◌, ◌≤◌, length, take};
 ghost use Rattle.std.proofs.lemmas.List.Edits.{sets};
@@ -46,7 +47,7 @@ pub fn mission_records(b: &[u8], o: &mut [u8])
     ensures { o.new ≡ sets o.old 0 (record_bytes (mission_records b.now)) }
 {
     put_byte(o, 0, format::MissionRecord::KIND);
-    copies::copy32_to_40(&b[..format::MissionRecord::LEN], o, 1);
+    copies::copy_all(&b[..format::MissionRecord::LEN], o, 1);
 }
 
 // J26 as the reading shows it.
@@ -62,7 +63,7 @@ pub fn job_records(r: format::Reading, b: &[u8], o: &mut [u8])
     ensures { o.new ≡ sets o.old 0 (record_bytes (job_records r b.now)) }
 {
     put_byte(o, 0, format::JobRecord::KIND);
-    copies::copy64_to_72(&b[..format::JobRecord::MARK], o, 1);
+    copies::copy_all(&b[..format::JobRecord::MARK], o, 1);
     put_byte(o, J26, j26_shown(r, b[format::JobRecord::J26]));
     put_byte(o, JOB_MARK, editions::mark_of(r));
 }
@@ -72,7 +73,7 @@ pub fn test_records(b: &[u8], o: &mut [u8])
     ensures { o.new ≡ sets o.old 0 (record_bytes (test_records b.now)) }
 {
     put_byte(o, 0, format::TestRecord::KIND);
-    copies::copy8_to_16(&b[..format::TestRecord::LEN], o, 1);
+    copies::copy_all(&b[..format::TestRecord::LEN], o, 1);
 }
 
 pub fn location_records(b: &[u8], o: &mut [u8])
@@ -80,7 +81,7 @@ pub fn location_records(b: &[u8], o: &mut [u8])
     ensures { o.new ≡ sets o.old 0 (record_bytes (location_records b.now)) }
 {
     put_byte(o, 0, format::LocationRecord::KIND);
-    copies::copy16_to_32(&b[..format::LocationRecord::LEN], o, 1);
+    copies::copy_all(&b[..format::LocationRecord::LEN], o, 1);
 }
 
 // A full piece.
@@ -100,10 +101,12 @@ fn last_piece(b: &[u8], o: &mut [u8])
 {
     put_byte(o, 0, format::PieceRecord::KIND);
     put_byte(o, 1, b.len() as u8);
-    copies::clear32(o, BYTES);
-    copies::copy_to_32(b, o, BYTES);
+    copies::clear(o, BYTES, FULL);
+    copies::copy_all(b, o, BYTES);
 }
 
+// Kept: a loop that counts. With `chunks_exact` zipped to `chunks_exact_mut` the free text takes 1.14 times the reader by hand, and so 1.00 to 1.12,
+// by where the loop comes to lie in the code; its goal is 1.
 fn full_pieces(b: &[u8], count: usize, o: &mut [u8])
     requires { (count * 32 ≤ length b.now) × (count * record_length 6 ≤ length o.old) }
     ensures { o.new ≡ sets o.old 0 (record_bytes (piece_records count b.now)) }
@@ -134,7 +137,7 @@ pub fn text_record(b: &[u8], o: &mut [u8])
     ensures { o.new ≡ sets o.old 0 (record_bytes (record_of 5 (take 20 b.now ++ bytes 4 (length b.now - 20)) ∷ [])) }
 {
     put_byte(o, 0, format::TextRecord::KIND);
-    copies::copy16_to_32(&b[..format::TextRecord::F3], o, 1);
+    copies::copy_all(&b[..format::TextRecord::F3], o, 1);
     octets::put_u32(o, F3_LENGTH, (b.len() - format::TextRecord::F3) as u32);
 }
 

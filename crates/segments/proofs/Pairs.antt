@@ -16,8 +16,7 @@ use Rattle.mask.specs.Mask.{is_required}
 use Rattle.mask.specs.InnerFields.{Required}
 use Rattle.mask.proofs.Places.{announced_before, value_there}
 use Rattle.format.specs.declared.Reading.{Reading}
-use Rattle.format.specs.declared.Check.{Check}
-use Rattle.format.specs.declared.Check.TheVariants.{Passed, Failed}
+use Rattle.format.specs.Check.{Check, Passed, Failed}
 use Rattle.format.specs.Packet.{Segment, size_at, body_at, segment_at}
 use Rattle.format.specs.Dwell.{mask_of, dwell_fields, D, Pair, pair_of, is_same_pair}
 use Rattle.format.specs.Rows.{first_row, body_rows, segment_rows}

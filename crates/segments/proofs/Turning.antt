@@ -9,7 +9,7 @@ use lib.ListN.{length, get_or, take, drop, length-drop, length-append}
 use lib.Seq.{drop-drop}
 use Rattle.octets.proofs.Parts.{tail-is}
 use Rattle.format.specs.declared.Reading.{Reading}
-use Rattle.format.specs.declared.Check.TheVariants.{Passed}
+use Rattle.format.specs.Check.{Passed}
 use Rattle.format.specs.Packet.{Segment, size_at, segment_at}
 use Rattle.format.specs.Rows.{first_row, segment_rows}
 use Rattle.format.specs.Reader.{Parsed, parse}

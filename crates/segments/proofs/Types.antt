@@ -9,8 +9,7 @@ use mathlib.Core.List.{List}
 use lib.ListN.{length}
 use lib.Seq.{sets}
 use Rattle.format.specs.declared.Reading.{Reading}
-use Rattle.format.specs.declared.Check.{Check}
-use Rattle.format.specs.declared.Check.TheVariants.{Passed}
+use Rattle.format.specs.Check.{Check, Passed}
 use Rattle.format.specs.Edition.{is_hrr}
 use Rattle.format.specs.Sheet.{piece_count, opaque_records, segment_records, record_bytes}
 use Rattle.format.specs.Lengths.{record_length}

@@ -2,6 +2,7 @@
 -- Assumes nothing.
 use Prim.Native.Nat.{ℕ, suc, ◌+◌, ◌-◌, ◌*◌, ◌≤◌, ◌<◌, zero-le}
 use native.Mathlib.Omega.{arith}
+use Rattle.std.specs.Prelude.{Result, Ok, Err}
 use mathlib.Core.Path.{◌≡◌, refl, sym, ap, ◌∙◌}
 use mathlib.Core.Bool.{Bool, true, false, cond}
 use mathlib.Core.List.{List, ◌∷◌, ◌++◌}
@@ -16,16 +17,15 @@ use Rattle.octets.proofs.Parts.{tail-is}
 use Rattle.mask.specs.Fields.{full_fields, dwell_widths}
 use Rattle.mask.proofs.FullWidth.{full-bytes}
 use Rattle.format.specs.declared.Reading.{Reading}
-use Rattle.format.specs.declared.Check.{Check}
-use Rattle.format.specs.declared.Check.TheVariants.{Passed, Failed}
-use Rattle.format.specs.declared.Answer.TheVariants.{Accepted, Refused}
+use Rattle.format.specs.Check.{Check, Passed, Failed}
+use Rattle.format.specs.Answer.{Accepted, Refused}
 use Rattle.format.specs.Packet.{Segment, type_at, size_at, body_at, segment_at}
 use Rattle.format.specs.Dwell.{mask_of, dwell_fields, target_count}
 use Rattle.format.specs.Sheet.{segment_records, packet_records, record_bytes}
 use Rattle.format.specs.Lengths.{record_length}
 use Rattle.format.specs.Rows.{first_row, body_rows, segment_rows}
 use Rattle.format.specs.Reader.{Parsed, parse, dwells_in, targets_in}
-use Rattle.format.proofs.Rows.{segment-passes}
+use Rattle.format.proofs.Rows.{segment-passes, passed-not-failed}
 use Rattle.format.proofs.ByType.{rows_as}
 use Rattle.format.proofs.Dwells.{is-dwell}
 use Rattle.format.proofs.Segments.{length-body, part-is}
@@ -35,8 +35,8 @@ use Rattle.format.proofs.Turns.{parse-good, parse-bad, parse-end}
 use Rattle.format.proofs.Filling.{Handed, handed_body}
 use Rattle.segments.specs.declared.Dwells.{Dwells}
 use Rattle.segments.specs.declared.Found.{Found}
-use Rattle.segments.specs.declared.Found.TheVariants.{Good, Bad}
-use Rattle.segments.specs.InnerWalk.{Checked, bytes_of, targets_of_type, found_by, found_at, pair_number, no_dwells, past, past_all, segments_of, answer_from, rest_answer}
+use Rattle.format.specs.declared.Fault.{Fault}
+use Rattle.segments.specs.InnerWalk.{Checked, good, bad, bytes_of, targets_of_type, found_by, found_at, pair_number, no_dwells, past, past_all, segments_of, answer_from, rest_answer}
 use Rattle.segments.proofs.Pairs.{body_bytes}
 
 -- what is handed on of a packet's segment to which no row applies is checked
@@ -47,15 +47,15 @@ handed-checked r s t at size n h = record { rows = h.rows; short = omega (arith,
 
 -- a segment to which no row applies is good, with what its parts give
 pub found-good : (r : Reading) (l b : List ℕ) {z t n : ℕ} → first_row (segment_rows r l) ≡ Passed → z ≡ size_at l → b ≡ body_at l
-    → t ≡ targets_of_type (type_at l) b → n ≡ length (bytes_of r (type_at l) b) → Good z t n ≡ found_at r l
+    → t ≡ targets_of_type (type_at l) b → n ≡ length (bytes_of r (type_at l) b) → good z t n ≡ found_at r l
 unfolding found_at
 found-good r l b {z} {t} {n} e hz hb ht hn =
     let m : n ≡ length (bytes_of r (type_at l) (body_at l)) = hn ∙ ap (λ (x : List ℕ). length (bytes_of r (type_at l) x)) hb in
-    let same : Good z t n ≡ found_by r l Passed = cc in
+    let same : good z t n ≡ found_by r l Passed = cc in
     same ∙ sym (ap (found_by r l) e)
 
 -- another is bad
-pub found-bad : (r : Reading) (l : List ℕ) (number field : ℕ) → first_row (segment_rows r l) ≡ Failed number field → Bad number field ≡ found_at r l
+pub found-bad : (r : Reading) (l : List ℕ) (number field : ℕ) → first_row (segment_rows r l) ≡ Failed number field → bad number field ≡ found_at r l
 unfolding found_at
 found-bad r l number field e = sym (ap (found_by r l) e)
 
@@ -92,27 +92,42 @@ pub record IsGood (r : Reading) (l : List ℕ) (size targets n : ℕ) : Type 0 w
   pub targets-is : targets_of_type (type_at l) (body_at l) ≡ targets
   pub length_is : length (bytes_of r (type_at l) (body_at l)) ≡ n
 
+-- what is found in either case, and what the rows then said
+abbrev found_in : Result Found Fault → Found
+found_in (Ok x) = x
+found_in (Err f) = record { size = 0; targets = 0; length = 0 }
+
+abbrev row_in : Result Found Fault → Check
+row_in (Ok x) = Passed
+row_in (Err f) = Failed f.number f.field
+
 -- two different cases of what is found
-good-not-bad : {A : Type 0} (z t n number field : ℕ) → Good z t n ≡ Bad number field → A
-good-not-bad z t n number field e = let q : ◌≡◌ {A = ℕ} 0 1 = cc in absurd (omega arith)
+good-not-bad : {A : Type 0} (z t n number field : ℕ) → good z t n ≡ bad number field → A
+good-not-bad z t n number field e = passed-not-failed number field (ap row_in e)
 
 -- a good segment passes its rows
-good-is : (r : Reading) (l : List ℕ) (z t n : ℕ) → found_at r l ≡ Good z t n → IsGood r l z t n
+good-is : (r : Reading) (l : List ℕ) (z t n : ℕ) → found_at r l ≡ good z t n → IsGood r l z t n
 unfolding found_at
 good-is r l z t n e = go (first_row (segment_rows r l)) refl e
   where
-    go : (c : Check) → first_row (segment_rows r l) ≡ c → found_by r l c ≡ Good z t n → IsGood r l z t n
-    go Passed p e = record { rows = p; size_is = cc; targets-is = cc; length_is = cc }
+    go : (c : Check) → first_row (segment_rows r l) ≡ c → found_by r l c ≡ good z t n → IsGood r l z t n
+    go Passed p e =
+        record {
+          rows = p;
+          size_is = ap (λ (x : Result Found Fault). (found_in x).size) e;
+          targets-is = ap (λ (x : Result Found Fault). (found_in x).targets) e;
+          length_is = ap (λ (x : Result Found Fault). (found_in x).length) e;
+        }
     go (Failed number field) p e = good-not-bad z t n number field (sym e)
 
 -- a bad one has a first row that applies
-bad-is : (r : Reading) (l : List ℕ) (number field : ℕ) → found_at r l ≡ Bad number field → first_row (segment_rows r l) ≡ Failed number field
+bad-is : (r : Reading) (l : List ℕ) (number field : ℕ) → found_at r l ≡ bad number field → first_row (segment_rows r l) ≡ Failed number field
 unfolding found_at
 bad-is r l number field e = go (first_row (segment_rows r l)) refl e
   where
-    go : (c : Check) → first_row (segment_rows r l) ≡ c → found_by r l c ≡ Bad number field → first_row (segment_rows r l) ≡ Failed number field
+    go : (c : Check) → first_row (segment_rows r l) ≡ c → found_by r l c ≡ bad number field → first_row (segment_rows r l) ≡ Failed number field
     go Passed p e = good-not-bad _ _ _ number field e
-    go (Failed n f) p e = let q : Failed n f ≡ Failed number field = cc in p ∙ q
+    go (Failed n f) p e = p ∙ ap row_in e
 
 -- ---- how large a segment's part is, so that no sum is too large
 
@@ -176,12 +191,12 @@ module _ (r : Reading) (l : List ℕ) (at : ℕ) where
   abbrev seen : List ℕ
   seen = take (length l - at) (drop at l)
 
-  module _ {f : Found} (found : f ≡ found_at r seen) where
+  module _ {f : Result Found Fault} (found : f ≡ found_at r seen) where
     -- what was found there
-    pub here-good : (z t n : ℕ) → f ≡ Good z t n → IsGood r (drop at l) z t n
+    pub here-good : (z t n : ℕ) → f ≡ good z t n → IsGood r (drop at l) z t n
     here-good z t n g = good-is r (drop at l) z t n (ap (found_at r) (sym (tail-is at l)) ∙ sym found ∙ g)
 
-    here-bad : (number field : ℕ) → f ≡ Bad number field → first_row (segment_rows r (drop at l)) ≡ Failed number field
+    here-bad : (number field : ℕ) → f ≡ bad number field → first_row (segment_rows r (drop at l)) ≡ Failed number field
     here-bad number field g = bad-is r (drop at l) number field (ap (found_at r) (sym (tail-is at l)) ∙ sym found ∙ g)
 
     module _ {S : ℕ} {D : Dwells} {T N : ℕ} (w : Walked r l at S D T N) (left : at < length l) where
@@ -192,14 +207,14 @@ module _ (r : Reading) (l : List ℕ) (at : ℕ) where
       more = omega (arith, w.fuel)
 
       -- the first row that applies is the answer
-      pub walk-bad : (number field : ℕ) → f ≡ Bad number field → Refused number (S + 1) field ≡ rest_answer r l
+      pub walk-bad : (number field : ℕ) → f ≡ bad number field → Refused number (S + 1) field ≡ rest_answer r l
       unfolding answer_from
       walk-bad number field g =
           let a : S + 0 + 1 ≡ S + 1 = omega arith in
           let bad = parse-bad r w.k (drop at l) some more number field (here-bad number field g) in
           sym (ap (λ (p : Parsed). answer_from r p S (dwells_in (segments_of r l)) T N) bad ∙ ap (λ (i : ℕ). Refused number i field) a) ∙ w.answer
 
-      module _ (z t n : ℕ) (e : f ≡ Good z t n) where
+      module _ (z t n : ℕ) (e : f ≡ good z t n) where
         -- what is left behind a good segment
         abbrev next : Parsed
         next = parse r (w.k - 1) (drop (at + z) l)

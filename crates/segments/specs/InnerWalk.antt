@@ -1,14 +1,12 @@
 -- What the walk that checks a packet's segments finds: of one segment, and of all. Contracts of this crate cite these; a reading's
 -- contract cites `read` of format alone.
 -- Assumes nothing.
-use Rattle.std.specs.Prelude.{ℕ, ◌+◌, ◌/◌, ◌≤◌, ◌≡◌, cond, List, [], ◌∷◌, leb, eqb, length, drop}
+use Rattle.std.specs.Prelude.{ℕ, ◌+◌, ◌/◌, ◌≤◌, ◌≡◌, cond, List, [], ◌∷◌, leb, eqb, length, drop, Result, Ok, Err}
 use Rattle.octets.specs.Octets.{be}
 use Rattle.format.specs.declared.Settings.{Settings}
 use Rattle.format.specs.declared.Reading.{Reading}
-use Rattle.format.specs.declared.Check.{Check}
-use Rattle.format.specs.declared.Check.TheVariants.{Passed, Failed}
-use Rattle.format.specs.declared.Answer.{Answer}
-use Rattle.format.specs.declared.Answer.TheVariants.{Accepted, Refused}
+use Rattle.format.specs.Check.{Check, Passed, Failed}
+use Rattle.format.specs.Answer.{Answer, Accepted, Refused}
 use Rattle.format.specs.Packet.{Segment, type_at, size_at, body_at}
 use Rattle.format.specs.Dwell.{target_count}
 use Rattle.format.specs.Sheet.{segment_records, packet_records, record_bytes}
@@ -17,7 +15,7 @@ use Rattle.format.specs.Rows.{first_row, header_rows, body_rows, segment_rows}
 use Rattle.format.specs.Reader.{Parsed, parse, parsed, dwells_in, targets_in}
 use Rattle.segments.specs.declared.Dwells.{Dwells}
 use Rattle.segments.specs.declared.Found.{Found}
-use Rattle.segments.specs.declared.Found.TheVariants.{Good, Bad}
+use Rattle.format.specs.declared.Fault.{Fault}
 
 -- ---- one segment
 
@@ -35,12 +33,18 @@ abbrev pub targets_of_type : ℕ → List ℕ → ℕ
 targets_of_type type b = cond (eqb type 2) (target_count b) 0
 
 -- what is found at the front of l, by the first row that applies: the segment's size, and what it adds to the targets and to the sheet
-abbrev pub found_by : Reading → List ℕ → Check → Found
-found_by r l Passed = Good (size_at l) (targets_of_type (type_at l) (body_at l)) (length (bytes_of r (type_at l) (body_at l)))
-found_by r l (Failed number field) = Bad number field
+abbrev pub good : ℕ → ℕ → ℕ → Result Found Fault
+good size targets n = Ok (record { size = size; targets = targets; length = n })
+
+abbrev pub bad : ℕ → ℕ → Result Found Fault
+bad number field = Err (record { number = number; field = field })
+
+abbrev pub found_by : Reading → List ℕ → Check → Result Found Fault
+found_by r l Passed = good (size_at l) (targets_of_type (type_at l) (body_at l)) (length (bytes_of r (type_at l) (body_at l)))
+found_by r l (Failed number field) = bad number field
 
 -- the segment at the front of l
-unfoldable pub found_at : Reading → List ℕ → Found
+unfoldable pub found_at : Reading → List ℕ → Result Found Fault
 found_at r l = found_by r l (first_row (segment_rows r l))
 
 -- ---- the dwells: what the walk keeps of the pairs of D2 and D3, by a fold of its own over all segments

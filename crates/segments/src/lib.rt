@@ -3,7 +3,8 @@
 
 ghost use Rattle.std.specs.Prelude.{◌≡◌, ◌+◌, ◌*◌, ◌≤◌, length};
 ghost use Rattle.std.proofs.lemmas.List.Edits.{sets};
-ghost use Rattle.format.specs.declared.Check.TheVariants.{Passed};
+ghost use Rattle.format.specs.Check.{Passed, check_of};
+ghost use Rattle.format.specs.Answer.{answer_of};
 ghost use Rattle.hrr.specs.Hrr.{hrr_mask, hrr_fields, scatterer_count};
 ghost use Rattle.format.specs.Packet.{is_known, type_at, size_at, body_at};
 ghost use Rattle.format.specs.Sheet.{piece_count};
@@ -12,7 +13,7 @@ ghost use Rattle.format.specs.Rows.{first_row, hrr_rows, body_rows, segment_rows
 ghost use Rattle.format.specs.Reader.{dwells_in};
 ghost use Rattle.segments.specs.InnerWalk.{Checked, bytes_of, targets_of_type, found_at, pair_numbers, no_dwells, past_pair, past, past_all, AtMost, longest_rest, most_dwells, CheckedAll, segments_of, rest_answer};
 
-use format::{Answer, Check};
+use format::{Counts, Fault, Refusal};
 
 fn is_known_type(segment_type: u8) -> bool
     ensures { result ≡ is_known segment_type }
@@ -24,8 +25,8 @@ fn is_known_type(segment_type: u8) -> bool
 }
 
 // The rows of a segment's body, by the segment's type.
-fn body_check(r: format::Reading, segment_type: u8, b: &[u8]) -> Check
-    ensures { result ≡ first_row (body_rows r segment_type b.now) }
+fn body_check(r: format::Reading, segment_type: u8, b: &[u8]) -> Result<(), Fault>
+    ensures { check_of result ≡ first_row (body_rows r segment_type b.now) }
 {
     match segment_type {
         1 => checks::mission_check(b),
@@ -34,14 +35,14 @@ fn body_check(r: format::Reading, segment_type: u8, b: &[u8]) -> Check
             if editions::is_hrr_read(r) {
                 hrr_checks::hrr_check(b)
             } else {
-                Check::Passed
+                Ok(())
             }
         }
         5 => checks::job_check(r, b),
         6 => checks::text_check(b),
         10 => checks::kept_check(format::TestRecord::LEN, b),
         13 => checks::kept_check(format::LocationRecord::LEN, b),
-        _ => Check::Passed,
+        _ => Ok(()),
     }
 }
 
@@ -54,22 +55,22 @@ pub fn size_at(l: &[u8]) -> usize
 }
 
 // The rows of the segment at the front of l, which is what is left of the packet.
-pub fn segment_check(r: format::Reading, l: &[u8]) -> Check
-    ensures { result ≡ first_row (segment_rows r l.now) }
+pub fn segment_check(r: format::Reading, l: &[u8]) -> Result<(), Fault>
+    ensures { check_of result ≡ first_row (segment_rows r l.now) }
 {
     if l.len() < 5 {
-        return Check::Failed(6, 0);
+        return Err(Fault::row(6));
     }
     let segment_type = l[0];
     if !is_known_type(segment_type) {
-        return Check::Failed(7, 0);
+        return Err(Fault::row(7));
     }
     let size = size_at(l);
     if size < 5 || l.len() < size {
-        return Check::Failed(8, 0);
+        return Err(Fault::row(8));
     }
     if editions::is_older(r) && segment_type == 3 {
-        return Check::Failed(15, 0);
+        return Err(Fault::row(15));
     }
     body_check(r, segment_type, &l[5..size])
 }
@@ -135,33 +136,30 @@ pub fn records_length(r: format::Reading, segment_type: u8, b: &[u8]) -> usize
     }
 }
 
-// What stands at the front of what is left of a packet.
-#[derive(Clone, Copy)]
-pub enum Found {
-    // The segment's size, its targets, and the bytes of its records.
-    Good(usize, usize, usize),
-    // The number and the field of the first row that applies.
-    Bad(usize, usize),
+// What stands at the front of what is left of a packet, where no row applies to it.
+#[derive(Clone, Copy, Debug, PartialEq, Eq)]
+pub struct Found {
+    // The segment's size.
+    pub size: usize,
+    pub targets: usize,
+    // The bytes that its records take on the sheet.
+    pub length: usize,
 }
 
 // The segment at the front of l.
-pub fn segment_at(r: format::Reading, l: &[u8]) -> Found
+pub fn segment_at(r: format::Reading, l: &[u8]) -> Result<Found, Fault>
     requires { length l.now ≤ 65536 }
     ensures { result ≡ found_at r l.now }
 {
-    match segment_check(r, l) {
-        Check::Failed(number, field) => Found::Bad(number, field),
-        Check::Passed => {
-            let segment_type = l[0];
-            let size = size_at(l);
-            let b = &l[5..size];
-            Found::Good(
-                size,
-                targets_in(r, segment_type, b),
-                records_length(r, segment_type, b),
-            )
-        }
-    }
+    segment_check(r, l)?;
+    let segment_type = l[0];
+    let size = size_at(l);
+    let b = &l[5..size];
+    Ok(Found {
+        size,
+        targets: targets_in(r, segment_type, b),
+        length: records_length(r, segment_type, b),
+    })
 }
 
 // What the walk knows of the dwells that it has passed, by the number that D2 and D3 of each spell together.
@@ -182,10 +180,10 @@ fn pair_past(dwells: Dwells, pair: u32) -> Dwells
     requires { AtMost 65536 dwells }
     ensures { result ≡ past_pair dwells pair }
 {
-    let number = pair as u64;
+    let number = u64::from(pair);
     let above = number + 1;
-    let risen = if dwells.above <= number { 1 } else { 0 };
-    let fallen = if dwells.above <= above { 0 } else { 1 };
+    let risen = usize::from(dwells.above <= number);
+    let fallen = usize::from(above < dwells.above);
     Dwells {
         rises: dwells.rises + risen,
         falls: dwells.falls + fallen,
@@ -243,19 +241,12 @@ const MOST_DWELLS: usize = (format::LONGEST_PACKET - format::HeaderRecord::LEN) 
 // So few that the array for them costs next to nothing: an array is cleared before it is lent.
 const FEW_DWELLS: usize = 32;
 
-fn different_of_few(r: format::Reading, l: &[u8]) -> usize
-    requires { CheckedAll r l.now × (most_dwells l.now ≤ 32) }
+// The same by way of an array of N.
+fn different_in<const N: usize>(r: format::Reading, l: &[u8]) -> usize
+    requires { CheckedAll r l.now × (most_dwells l.now ≤ N) × (N ≤ 1364) }
     ensures { result ≡ dwells_in (segments_of r l.now) }
 {
-    let mut pairs = [0u32; FEW_DWELLS];
-    different_pairs(r, l, &mut pairs)
-}
-
-fn different_of_many(r: format::Reading, l: &[u8]) -> usize
-    requires { CheckedAll r l.now }
-    ensures { result ≡ dwells_in (segments_of r l.now) }
-{
-    let mut pairs = [0u32; MOST_DWELLS];
+    let mut pairs = [0u32; N];
     different_pairs(r, l, &mut pairs)
 }
 
@@ -269,16 +260,17 @@ fn dwell_count(r: format::Reading, l: &[u8], dwells: Dwells) -> usize
         return dwells.rises;
     }
     if l.len() / LEAST_DWELL <= FEW_DWELLS {
-        return different_of_few(r, l);
+        return different_in::<FEW_DWELLS>(r, l);
     }
-    different_of_many(r, l)
+    different_in::<MOST_DWELLS>(r, l)
 }
 
 // The answer but for row 16, of l, the packet behind its header.
-pub fn check(r: format::Reading, l: &[u8]) -> Answer
+pub fn check(r: format::Reading, l: &[u8]) -> Result<Counts, Refusal>
     requires { length l.now ≤ longest_rest }
-    ensures { result ≡ rest_answer r l.now }
+    ensures { answer_of result ≡ rest_answer r l.now }
 {
+    // Kept: a place that is moved on. An iterator would hand out a Result for each segment, to be taken apart here all the same: no plainer.
     let mut at = 0;
     let mut segments = 0;
     let mut dwells = Dwells {
@@ -290,18 +282,17 @@ pub fn check(r: format::Reading, l: &[u8]) -> Answer
     let mut length = format::HeaderRecord::WHOLE;
     while at < l.len() {
         let t = &l[at..];
-        match segment_at(r, t) {
-            Found::Bad(number, field) => {
-                return Answer::Refused(number, segments + 1, field);
-            }
-            Found::Good(size, its_targets, its_length) => {
-                segments += 1;
-                dwells = dwells_past(r, dwells, t);
-                targets += its_targets;
-                length += its_length;
-                at += size;
-            }
-        }
+        let found = segment_at(r, t).map_err(|fault| fault.in_segment(segments + 1))?;
+        segments += 1;
+        dwells = dwells_past(r, dwells, t);
+        targets += found.targets;
+        length += found.length;
+        at += found.size;
     }
-    Answer::Accepted(segments, dwell_count(r, l, dwells), targets, length)
+    Ok(Counts {
+        segments,
+        dwells: dwell_count(r, l, dwells),
+        targets,
+        length,
+    })
 }

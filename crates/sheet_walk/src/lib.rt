@@ -8,56 +8,45 @@ ghost use Rattle.format.specs.Lengths.{record_length};
 ghost use Rattle.format.specs.Writer.{listed, due, share as share_of, carried as carriedBy};
 ghost use Rattle.sheet_walk.specs.InnerShape.{place_at, is_rest, scatterers_behind, lead_of, size_by, Bounded, is_full_at, Tells};
 
-// The kinds are the numbers below this one, without 0.
-const KINDS: u8 = format::ScattererRecord::KIND + 1;
-
-// The length of the body of each kind of record, from 0, which is no kind. One byte each: where it is used, the table is stored anew.
-const BODY_LENGTHS: [u8; KINDS as usize] = [
-    0,
-    format::HeaderRecord::LEN as u8,
-    format::MissionRecord::LEN as u8,
-    format::DwellRecord::LEN as u8,
-    format::TargetRecord::LEN as u8,
-    format::TextRecord::LEN as u8,
-    format::PieceRecord::LEN as u8,
-    format::OpaqueRecord::LEN as u8,
-    format::JobRecord::LEN as u8,
-    format::TestRecord::LEN as u8,
-    format::LocationRecord::LEN as u8,
-    format::HrrRecord::LEN as u8,
-    format::ScattererRecord::LEN as u8,
-];
-
 // The bytes of four scatterers' records.
 const FOUR: usize = 4 * format::ScattererRecord::WHOLE;
 
-// A byte as a wider number, with its bound: where it is used, no proof is asked that it fits.
-fn wide(x: u8) -> usize
-    ensures { (result ≡ x) × (result ≤ 255) }
-{
-    x as usize
-}
+// The kinds are the numbers below this one, without 0.
+const KINDS: usize = format::ScattererRecord::KIND as usize + 1;
 
-// The length of the body that a kind fixes. Most records are targets or pieces: known by a test, they are passed over without waiting for the
-// table.
+// The length of the body of each kind of record, from 0, which is no kind.
+static BODY_LENGTHS: [usize; KINDS] = [
+    0,
+    format::HeaderRecord::LEN,
+    format::MissionRecord::LEN,
+    format::DwellRecord::LEN,
+    format::TargetRecord::LEN,
+    format::TextRecord::LEN,
+    format::PieceRecord::LEN,
+    format::OpaqueRecord::LEN,
+    format::JobRecord::LEN,
+    format::TestRecord::LEN,
+    format::LocationRecord::LEN,
+    format::HrrRecord::LEN,
+    format::ScattererRecord::LEN,
+];
+
+// The length of the body that a kind fixes, and 0 for a number that is no kind. Most records are targets or pieces: known by a test, they are
+// passed over without waiting for the table.
+#[tactic(auto, unfolding(format::specs::Sheet::body_length))]
 fn body_length(kind: u8) -> usize
     ensures { (result ≡ body_length kind) × (result ≤ 87) }
 {
-    if kind == format::TargetRecord::KIND {
-        return format::TargetRecord::LEN;
-    }
-    if kind == format::PieceRecord::KIND {
-        return format::PieceRecord::LEN;
-    }
-    if kind < KINDS {
-        wide(BODY_LENGTHS[kind as usize])
-    } else {
-        0
+    match kind {
+        format::TargetRecord::KIND => format::TargetRecord::LEN,
+        format::PieceRecord::KIND => format::PieceRecord::LEN,
+        _ => BODY_LENGTHS.get(usize::from(kind)).copied().unwrap_or(0),
     }
 }
 
 // What is at a place of a sheet.
-#[derive(Clone, Copy)]
+// Kept: an enum of its own. A record, the end and a cut are three cases of one answer; as `Option<Result<..>>` a caller would match twice.
+#[derive(Clone, Copy, Debug, PartialEq, Eq)]
 pub enum Place {
     // A whole record: its kind, and the place behind its body. The body begins behind the byte of kind.
     Whole(u8, usize),
@@ -68,13 +57,13 @@ pub enum Place {
 }
 
 // Any bytes may be handed in, and any place.
+#[tactic(auto, unfolding(crate::specs::InnerShape::place_at))]
 pub fn record_at(x: &[u8], at: usize) -> Place
     ensures { result ≡ place_at x.now at }
 {
-    if x.len() <= at {
+    let Some(&kind) = x.get(at) else {
         return Place::End;
-    }
-    let kind = x[at];
+    };
     let n = body_length(kind);
     if n == 0 {
         return Place::Cut;
@@ -110,17 +99,14 @@ pub fn is_rest(x: &[u8], start: usize) -> bool
 pub fn is_follower(kind: u8) -> bool
     ensures { result ≡ (eqb kind 4 || eqb kind 6 || eqb kind 12) }
 {
-    if kind == format::TargetRecord::KIND {
-        return true;
-    }
-    if kind == format::PieceRecord::KIND {
-        return true;
-    }
-    kind == format::ScattererRecord::KIND
+    matches!(
+        kind,
+        format::TargetRecord::KIND | format::PieceRecord::KIND | format::ScattererRecord::KIND
+    )
 }
 
 // What a record says that begins a segment.
-#[derive(Clone, Copy)]
+#[derive(Clone, Copy, Debug, PartialEq, Eq)]
 pub struct Lead {
     pub segment_type: u8,
     // How many bytes it gives to the segment's body.
@@ -132,14 +118,15 @@ pub struct Lead {
 }
 
 // A record with nothing behind it.
+// Kept: the kind 0 for none, which `due` of format/specs/Writer.antt says where nothing is due.
 fn alone(segment_type: u8, given: usize) -> Lead
     requires { given ≤ 87 }
     ensures bounded { Bounded result }
     ensures value { result ≡ record { segment_type = segment_type; given = given; follower = 0; left = 0; each = 1 } }
 {
     Lead {
-        segment_type: segment_type,
-        given: given,
+        segment_type,
+        given,
         follower: 0,
         left: 0,
         each: 1,
@@ -153,8 +140,8 @@ fn in_pieces(segment_type: u8, given: usize, bytes: u32) -> Lead
     ensures value { result ≡ record { segment_type = segment_type; given = given; follower = 6; left = bytes; each = 1 } }
 {
     Lead {
-        segment_type: segment_type,
-        given: given,
+        segment_type,
+        given,
         follower: format::PieceRecord::KIND,
         left: bytes as usize,
         each: 1,
@@ -173,16 +160,9 @@ fn with_targets(b: &[u8]) -> Lead
         segment_type: 2,
         given: 8 + mask::dwell_length(mask),
         follower: format::TargetRecord::KIND,
-        left: targets as usize,
+        left: usize::from(targets),
         each: mask::target_length(mask),
     }
-}
-
-// The bytes that a number of this width takes when it is spelt from its two bytes on the sheet.
-fn spelt(w: usize) -> usize
-    ensures { result ≡ min 2 w }
-{
-    if w < 2 { w } else { 2 }
 }
 
 // The scatterers behind a record of kind 11, whose body is b: so many, and the bytes that each number of them takes when it is spelt, at most
@@ -193,10 +173,10 @@ pub fn scatterers_behind(b: &[u8]) -> hrr::Scatterers
 {
     let s = hrr::scatterers_of(hrr::mask_of(b), &b[format::HrrRecord::FIELDS..]);
     hrr::Scatterers {
-        magnitude: spelt(s.magnitude),
-        phase: spelt(s.phase),
-        range: spelt(s.range),
-        doppler: spelt(s.doppler),
+        magnitude: s.magnitude.min(2),
+        phase: s.phase.min(2),
+        range: s.range.min(2),
+        doppler: s.doppler.min(2),
         count: s.count,
     }
 }
@@ -218,41 +198,32 @@ fn with_scatterers(b: &[u8]) -> Lead
 }
 
 // The kind and the count that a full piece begins with, as one number, the first byte the lowest: so the compiler takes both at once.
-const FULL_PIECE: usize = format::PieceRecord::KIND as usize + 256 * format::PieceRecord::FULL;
+const FULL_PIECE: u16 = format::PieceRecord::KIND as u16 + 256 * format::PieceRecord::FULL as u16;
 
 // Whether the bytes at a place are the kind and the count of a full piece.
 pub fn is_full_piece(x: &[u8], at: usize) -> bool
     requires { at + 2 ≤ length x.now }
     ensures { result ≡ is_full_at x.now at }
 {
-    wide(x[at]) + wide(x[at + 1]) * 256 == FULL_PIECE
+    u16::from_le_bytes([x[at], x[at + 1]]) == FULL_PIECE
 }
 
-// 0 where they are, else 1.
-fn not_full(x: &[u8], at: usize) -> u8
-    requires { at + 2 ≤ length x.now }
-    ensures { result ≡ cond (is_full_at x.now at) 0 1 }
-{
-    if is_full_piece(x, at) { 0 } else { 1 }
-}
-
-// Whether x begins with so many full pieces. The loop goes on where one is none, and gathers in a byte: with a branch for each it waits longer.
+// Whether x begins with so many full pieces. The loop goes on where one is none: with a branch for each it waits longer.
 pub fn are_full_pieces(x: &[u8], count: usize) -> bool
     ensures { Tells result 6 count x.now }
 {
     if x.len() / format::PieceRecord::WHOLE < count {
         return false;
     }
-    let mut seen: u8 = 0;
-    let mut at: usize = 0;
+    let mut all = true;
     for i in 0..count {
-        seen = seen | not_full(x, at);
-        at += format::PieceRecord::WHOLE;
+        all &= is_full_piece(x, i * format::PieceRecord::WHOLE);
     }
-    seen == 0
+    all
 }
 
 // Whether x begins with four scatterers.
+// Kept: by places, as the loops below, and not by `chunks_exact`: `Tells` speaks of places of x, and so do the loops that put the records.
 fn are_four(x: &[u8]) -> bool
     requires { 4 * record_length 12 ≤ length x.now }
     ensures { Tells result 12 4 x.now }
@@ -268,12 +239,10 @@ fn are_fours(x: &[u8], n: usize) -> bool
     requires { n * 4 * record_length 12 ≤ length x.now }
     ensures { Tells result 12 (n * 4) x.now }
 {
-    let mut at: usize = 0;
     for i in 0..n {
-        if !are_four(&x[at..]) {
+        if !are_four(&x[i * FOUR..]) {
             return false;
         }
-        at += FOUR;
     }
     true
 }
@@ -283,12 +252,10 @@ fn are_few(x: &[u8], count: usize) -> bool
     requires { count * record_length 12 ≤ length x.now }
     ensures { Tells result 12 count x.now }
 {
-    let mut at: usize = 0;
     for i in 0..count {
-        if x[at] != format::ScattererRecord::KIND {
+        if x[i * format::ScattererRecord::WHOLE] != format::ScattererRecord::KIND {
             return false;
         }
-        at += format::ScattererRecord::WHOLE;
     }
     true
 }
@@ -345,23 +312,20 @@ pub fn share(follower: u8, left: usize) -> usize
     ensures { result ≡ share_of (due follower left) }
 {
     if follower == format::PieceRecord::KIND {
-        if left < format::PieceRecord::FULL {
-            left
-        } else {
-            format::PieceRecord::FULL
-        }
+        left.min(format::PieceRecord::FULL)
     } else {
         1
     }
 }
 
 // How much a follower has: a piece by its count.
+#[tactic(auto, unfolding(format::specs::Sheet::body_length))]
 pub fn carried(kind: u8, b: &[u8]) -> usize
     requires { length b.now ≡ body_length kind }
     ensures { result ≡ carriedBy (record { kind = kind; body = b.now }) }
 {
     if kind == format::PieceRecord::KIND {
-        wide(b[0])
+        usize::from(b[0])
     } else {
         1
     }

@@ -1,6 +1,6 @@
 -- What the code stores for a record is what the record adds to the packet.
 -- Assumes nothing.
-use mathlib.Core.Path.{◌≡◌, refl, sym, ap, ap₂, ◌∙◌}
+use mathlib.Core.Path.{◌≡◌, refl, ap, ap₂, ◌∙◌}
 use mathlib.Core.Bool.{Bool, true, false, cond}
 use mathlib.Core.List.{List, [], ◌∷◌, ◌++◌}
 use Prim.Native.Nat.{ℕ, zero, suc, ◌+◌, ◌≤◌, zero-le}
@@ -9,7 +9,7 @@ use native.Mathlib.Omega.{arith}
 use borrow.Author.Tests.{ne_eqb}
 use lib.Dec.{eqb}
 use lib.ListN.{length, get_or, take, drop, length-drop}
-use lib.Seq.{sets, length-take-le, take-length, take-add}
+use lib.Seq.{sets, length-take-le, take-length}
 use Rattle.octets.specs.Octets.{be, bytes}
 use Rattle.octets.specs.Layout.{total}
 use Rattle.octets.proofs.Laws.{length-bytes, then}
@@ -83,12 +83,10 @@ module _ (kind : ℕ) (b : List ℕ) where
     pub hrr-length : length (given (record_in kind b)) ≡ 5 + announced_length (hrr_mask b) 2 hrr_widths
     hrr-length = rw e (hrr-given b (size ∙ ap body_length e))
 
-    pub hrr-stored : (mask : ℕ) → mask ≡ hrr_mask b → (o : List ℕ) {v x w : List ℕ}
-        → v ≡ sets o 0 (take 4 b) → x ≡ sets v 4 (take 1 (drop 4 b)) → w ≡ sets x 5 (announced_fields mask 2 hrr_widths (drop 5 b)) → w ≡ sets o 0 (given (record_in kind b))
+    pub hrr-stored : (mask : ℕ) → mask ≡ hrr_mask b → (o : List ℕ) {x w : List ℕ}
+        → x ≡ sets o 0 (take 5 b) → w ≡ sets x 5 (announced_fields mask 2 hrr_widths (drop 5 b)) → w ≡ sets o 0 (given (record_in kind b))
     unfolding given
-    hrr-stored mask m o hv hx hw =
-        let five = then (take 4 b) (take 1 (drop 4 b)) o 0 4 hv (length-take-le 4 b (omega (arith, hrr-long))) hx ∙ ap (sets o 0) (sym (take-add 4 1 b)) in
-        rw e (masked-stored 5 hrr_widths b mask (hrr_mask b) m o (omega (arith, hrr-long)) five hw)
+    hrr-stored mask m o five hw = rw e (masked-stored 5 hrr_widths b mask (hrr_mask b) m o (omega (arith, hrr-long)) five hw)
 
 -- ---- with the segment's header
 

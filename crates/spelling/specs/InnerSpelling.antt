@@ -1,7 +1,7 @@
 -- The spelt packet one record at a time, as the code goes. On a sheet that row 18 lets pass, a record by itself tells the size of the
 -- segment that it begins, so nothing waits for the records behind it.
 -- Assumes nothing.
-use Rattle.std.specs.Prelude.{ℕ, zero, suc, ◌+◌, ◌-◌, ◌*◌, ◌/◌, ◌≤◌, min, ◌≡◌, ◌&&◌, cond, List, [], ◌∷◌, ◌++◌, ltb, eqb, length, get_or, take, drop}
+use Rattle.std.specs.Prelude.{ℕ, zero, suc, ◌+◌, ◌-◌, ◌*◌, ◌/◌, ◌≤◌, min, ◌≡◌, ◌&&◌, cond, List, [], ◌∷◌, ◌++◌, Option, Some, None, Result, Ok, Err, ltb, eqb, length, get_or, take, drop}
 use Rattle.std.proofs.lemmas.List.Edits.{sets}
 use Rattle.octets.specs.Octets.{bytes}
 use Rattle.format.specs.Sheet.{Record, body_length}
@@ -10,12 +10,11 @@ use Rattle.format.specs.Writer.{listed, Due, due, called_for, is_follower, share
 use Rattle.sheet_walk.specs.declared.Place.{Place}
 use Rattle.sheet_walk.specs.declared.Place.TheVariants.{Whole, End, Cut}
 use Rattle.sheet_walk.specs.InnerShape.{is_sheet, each_takes, BeginsWith, each_has}
-use Rattle.spelling.specs.declared.Survey.{Survey}
-use Rattle.spelling.specs.declared.Survey.TheVariants.{Unlisted, Incomplete, Spells}
+use Rattle.spelling.specs.declared.Misshapen.{Misshapen}
+use Rattle.spelling.specs.declared.Misshapen.TheVariants.{Unlisted, Incomplete}
 use Rattle.spelling.specs.declared.Ahead.{Ahead}
 use Rattle.spelling.specs.declared.Step.{Step}
 use Rattle.spelling.specs.declared.Counted.{Counted}
-use Rattle.spelling.specs.declared.Counted.TheVariants.{Then, Misplaced}
 
 -- S2 of the segment that a record begins: "its own 5 header bytes", what the record gives, and what it calls for
 unfoldable pub size_of : Record → ℕ
@@ -119,26 +118,42 @@ pub record Put (r : Record) (rest o : List ℕ) (s : Step) (left : List ℕ) : T
 abbrev pub capped : ℕ → ℕ
 capped n = min 65537 n
 
--- the place behind the header at the front of a sheet, or 0 where none is there
-abbrev pub header_end : Place → ℕ
-header_end (Whole kind end) = cond (eqb kind 1) end 0
-header_end End = 0
-header_end Cut = 0
+-- the place behind the header at the front of a sheet
+abbrev pub header_end : Place → Option ℕ
+header_end (Whole kind end) = cond (eqb kind 1) (Some end) None
+header_end End = None
+header_end Cut = None
 
 -- row 17 applies, or row 18 does, or the sheet spells so many bytes
+abbrev pub Survey : Type 0
+Survey = Result ℕ Misshapen
+
+abbrev pub unlisted : Survey
+unlisted = Err Unlisted
+
+abbrev pub incomplete : Survey
+incomplete = Err Incomplete
+
+abbrev pub spells : ℕ → Survey
+spells n = Ok n
+
 unfoldable pub surveyed : List ℕ → Survey
 surveyed x =
     cond (is_sheet (listed x))
-    (cond (is_complete (due 0 0) (listed x).records) (Spells (capped (length (spell x)))) Incomplete)
-    Unlisted
+    (cond (is_complete (due 0 0) (listed x).records) (spells (capped (length (spell x)))) incomplete)
+    unlisted
+
+-- so much of a kind is due next, and so many bytes are spelt
+abbrev pub then_due : ℕ → ℕ → ℕ → Option Counted
+then_due kind left sum = Some (record { follower = kind; left = left; sum = sum })
 
 -- what is due behind a record and how many bytes are spelt with it, where so much was due and so many were spelt; by the cases of
 -- `isComplete`
-unfoldable pub counted : Due → ℕ → Record → Counted
+unfoldable pub counted : Due → ℕ → Record → Option Counted
 counted d sum r =
     cond (ltb 0 d.left)
-    (cond (eqb r.kind d.kind && eqb (carried r) (share d)) (Then d.kind (d.left - share d) sum) Misplaced)
-    (cond (is_follower r) Misplaced (Then (called_for r).kind (called_for r).left (capped (sum + size_of r))))
+    (cond (eqb r.kind d.kind && eqb (carried r) (share d)) (then_due d.kind (d.left - share d) sum) None)
+    (cond (is_follower r) None (then_due (called_for r).kind (called_for r).left (capped (sum + size_of r))))
 
 -- how far a walk goes at once from a place of x where so much of a kind is due: past a row of n records of that kind, or n is 0
 abbrev pub Passes : List ℕ → ℕ → ℕ → ℕ → Ahead → Type 0

@@ -1,102 +1,94 @@
 // The packet that a sheet spells: the header, then each segment with S2 worked out and only announced fields.
 #![tactic(auto)]
 
-ghost use Rattle.std.specs.Prelude.{◌≡◌, true, ◌||◌, cond, ◌∷◌, ◌⊎◌, ◌*◌, ◌≤◌, eqb, length, get_or, take, drop};
+ghost use Rattle.std.specs.Prelude.{Ok, Err, ◌≡◌, true, ◌||◌, cond, ◌∷◌, ◌⊎◌, ◌*◌, ◌≤◌, eqb, length, get_or, take, drop};
 ghost use Rattle.std.proofs.lemmas.List.Edits.{sets};
 ghost use Rattle.octets.specs.Octets.{bytes};
 ghost use Rattle.format.specs.Sheet.{body_length};
 ghost use Rattle.format.specs.Lengths.{record_length};
 ghost use Rattle.format.specs.Writer.{listed, due, called_for, given as given_of, spell as spellSheet};
 ghost use Rattle.sheet_walk.specs.InnerShape.{place_at, is_rest, Shaped};
-ghost use Rattle.spelling.specs.declared.Survey.TheVariants.{Unlisted, Incomplete, Spells};
+ghost use Rattle.spelling.specs.declared.Misshapen.TheVariants.{Unlisted, Incomplete};
 ghost use Rattle.spelling.specs.InnerSpelling.{begun, spelt, carried_all, spelt_next, read_next, record_in, leading, Begins, Spellable, SpellableNext, Followed, Put};
 ghost use Rattle.spelling.specs.InnerSpelling.{header_end, surveyed, capped as cappedAt, counted, Passes};
 
 use sheet_walk::Place;
 
-// What rows 17 and 18 say of a sheet and, where neither applies, how long its packet is.
-#[derive(Clone, Copy)]
-pub enum Survey {
+// What rows 17 and 18 say of a sheet.
+#[derive(Clone, Copy, Debug, PartialEq, Eq)]
+pub enum Misshapen {
     // Row 17 applies.
     Unlisted,
     // Row 17 does not, and row 18 does.
     Incomplete,
-    // The packet has so many bytes, of which 65,537 stand for any more.
-    Spells(usize),
 }
 
-// What a record leaves of what is counted, or that it stands where it may not.
-#[derive(Clone, Copy)]
-enum Counted {
-    // The kind that is due behind the record, how much of it, and the bytes spelt so far.
-    Then(u8, usize, usize),
-    Misplaced,
+// The kind that is due next, how much of it, and the bytes spelt so far.
+#[derive(Clone, Copy, Debug, PartialEq, Eq)]
+struct Counted {
+    follower: u8,
+    left: usize,
+    sum: usize,
 }
 
 // No packet is longer than 65,536 bytes; one byte more stands for any length above that, so that sums stay small.
 fn capped(n: usize) -> usize
     ensures { result ≡ cappedAt n }
 {
-    if format::LONGEST_PACKET < n {
-        format::LONGEST_PACKET + 1
-    } else {
-        n
-    }
+    n.min(format::LONGEST_PACKET + 1)
 }
 
-// A record where so much of a kind is due, and so many bytes are spelt.
-fn count(follower: u8, left: usize, sum: usize, kind: u8, b: &[u8]) -> Counted
-    requires { (length b.now ≡ body_length kind) × (1 ≤ length b.now) × (sum ≤ 65537) }
-    ensures { result ≡ counted (due follower left) sum (record_in kind b.now) }
+// What is counted behind a record, or nothing where it stands where it may not.
+fn count(before: Counted, kind: u8, b: &[u8]) -> Option<Counted>
+    requires { (length b.now ≡ body_length kind) × (1 ≤ length b.now) × (before.sum ≤ 65537) }
+    ensures { result ≡ counted (due before.follower before.left) before.sum (record_in kind b.now) }
 {
-    if 0 < left {
-        if kind != follower {
-            return Counted::Misplaced;
+    if 0 < before.left {
+        if kind != before.follower {
+            return None;
         }
-        let n = sheet_walk::share(follower, left);
+        let n = sheet_walk::share(before.follower, before.left);
         if sheet_walk::carried(kind, b) != n {
-            return Counted::Misplaced;
+            return None;
         }
-        let rest = left - n;
-        return Counted::Then(follower, rest, sum);
+        let left = before.left - n;
+        return Some(Counted { left, ..before });
     }
     if sheet_walk::is_follower(kind) {
-        return Counted::Misplaced;
+        return None;
     }
     let l = sheet_walk::lead_of(kind, b);
-    let n = capped(sum + sheet_walk::segment_size(l));
-    Counted::Then(l.follower, l.left, n)
+    let sum = capped(before.sum + sheet_walk::segment_size(l));
+    Some(Counted {
+        follower: l.follower,
+        left: l.left,
+        sum,
+    })
 }
 
-// A sheet to which row 18 applies, unless row 17 does from a place on.
-fn incomplete(x: &[u8], at: usize) -> Survey
+// What is said of a sheet to which row 18 applies, unless row 17 does from a place on.
+fn incomplete(x: &[u8], at: usize) -> Misshapen
     ensures { result ≡ cond (is_rest (listed (drop at x.now))) Incomplete Unlisted }
 {
     if sheet_walk::is_rest(x, at) {
-        Survey::Incomplete
+        Misshapen::Incomplete
     } else {
-        Survey::Unlisted
+        Misshapen::Unlisted
     }
 }
 
-// The place behind the header at the front of x, or 0 where none is there.
-fn header_end(x: &[u8]) -> usize
+// The place behind the header at the front of x.
+fn header_end(x: &[u8]) -> Option<usize>
     ensures { result ≡ header_end (place_at x.now 0) }
 {
     match sheet_walk::record_at(x, 0) {
-        Place::End => 0,
-        Place::Cut => 0,
-        Place::Whole(kind, end) => {
-            if kind == format::HeaderRecord::KIND {
-                return end;
-            }
-            0
-        }
+        Place::Whole(format::HeaderRecord::KIND, end) => Some(end),
+        _ => None,
     }
 }
 
 // A place on the sheet, and how much is left there of what is due.
-#[derive(Clone, Copy)]
+#[derive(Clone, Copy, Debug, PartialEq, Eq)]
 struct Ahead {
     at: usize,
     left: usize,
@@ -131,50 +123,51 @@ fn passed(x: &[u8], at: usize, follower: u8, left: usize) -> Ahead
 }
 
 // What is found at the sheet's end, where so much is due and so many bytes are spelt.
-fn ended(left: usize, sum: usize) -> Survey
-    ensures { result ≡ cond (eqb left 0) (Spells sum) Incomplete }
+fn ended(left: usize, sum: usize) -> Result<usize, Misshapen>
+    ensures { result ≡ cond (eqb left 0) (Ok sum) (Err Incomplete) }
 {
     if left == 0 {
-        Survey::Spells(sum)
+        Ok(sum)
     } else {
-        Survey::Incomplete
+        Err(Misshapen::Incomplete)
     }
 }
 
-// Rows 17 and 18 and the length of the packet, in one walk. A later fault of row 17 comes before an earlier one of row 18.
-pub fn survey_of(x: &[u8]) -> Survey
+// Rows 17 and 18 and the length of the packet, in one walk; 65,537 stands for any greater one. A later fault of row 17 comes before an earlier
+// one of row 18.
+pub fn survey_of(x: &[u8]) -> Result<usize, Misshapen>
     ensures { result ≡ surveyed x.now }
 {
-    let mut at = header_end(x);
-    if at == 0 {
-        return Survey::Unlisted;
-    }
-    let mut follower: u8 = 0;
-    let mut left = 0;
-    let mut sum = format::HeaderRecord::LEN;
+    let Some(mut at) = header_end(x) else {
+        return Err(Misshapen::Unlisted);
+    };
+    let mut counted = Counted {
+        follower: 0,
+        left: 0,
+        sum: format::HeaderRecord::LEN,
+    };
     loop {
         match sheet_walk::record_at(x, at) {
-            Place::Cut => return Survey::Unlisted,
-            Place::End => return ended(left, sum),
+            Place::Cut => return Err(Misshapen::Unlisted),
+            Place::End => return ended(counted.left, counted.sum),
             Place::Whole(kind, end) => {
                 if kind == format::HeaderRecord::KIND {
-                    return Survey::Unlisted;
+                    return Err(Misshapen::Unlisted);
                 }
                 let from = at + 1;
-                match count(follower, left, sum, kind, &x[from..end]) {
-                    Counted::Misplaced => return incomplete(x, end),
-                    Counted::Then(f, l, s) => {
-                        follower = f;
-                        sum = s;
-                        if 0 < left {
-                            left = l;
-                            at = end;
-                        } else {
-                            let ahead = passed(x, end, f, l);
-                            left = ahead.left;
-                            at = ahead.at;
-                        }
-                    }
+                let Some(next) = count(counted, kind, &x[from..end]) else {
+                    return Err(incomplete(x, end));
+                };
+                if 0 < counted.left {
+                    counted = next;
+                    at = end;
+                } else {
+                    let ahead = passed(x, end, next.follower, next.left);
+                    counted = Counted {
+                        left: ahead.left,
+                        ..next
+                    };
+                    at = ahead.at;
                 }
             }
         }
@@ -195,8 +188,7 @@ fn put_masked_hrr(b: &[u8], o: &mut [u8])
     requires { (length b.now ≡ body_length 11) × (length (given_of (record_in 11 b.now)) ≤ length o.old) }
     ensures { o.new ≡ sets o.old 0 (given_of (record_in 11 b.now)) }
 {
-    copies::copy4(b, 0, o, 0);
-    copies::copy1(b, 4, o, 4);
+    copies::copy::<5>(b, 0, o, 0);
     pack_hrr::hrr_fields(b, hrr::MASK, hrr::mask_of(b), o, hrr::MASK);
 }
 
@@ -206,7 +198,7 @@ fn put_given(kind: u8, b: &[u8], n: usize, o: &mut [u8])
     ensures { o.new ≡ sets o.old 0 (given_of (record_in kind b.now)) }
 {
     if kind == format::DwellRecord::KIND {
-        copies::copy8(b, 0, o, 0);
+        copies::copy::<8>(b, 0, o, 0);
         pack::dwell_fields(b, 8, octets::get_u64(b, 0), o, 8);
         return;
     }
@@ -237,9 +229,9 @@ fn put_piece(b: &[u8], o: &mut [u8]) -> usize
     ensures value { result ≡ get_or b.now 0 0 }
     ensures o_after { o.new ≡ sets o.old 0 (take (get_or b.now 0 0) (drop 1 b.now)) }
 {
-    let count = b[0] as usize;
+    let count = usize::from(b[0]);
     let to = format::PieceRecord::BYTES + count;
-    copies::copy_to_32(&b[format::PieceRecord::BYTES..to], o, 0);
+    copies::copy_all(&b[format::PieceRecord::BYTES..to], o, 0);
     count
 }
 
@@ -259,7 +251,7 @@ fn put_record(kind: u8, leader: &[u8], b: &[u8], o: &mut [u8]) -> usize
 }
 
 // How far a step of the walk goes on the sheet behind a record, and in the packet.
-#[derive(Clone, Copy)]
+#[derive(Clone, Copy, Debug, PartialEq, Eq)]
 struct Step {
     read: usize,
     written: usize,
@@ -284,12 +276,9 @@ fn put_full_pieces(rest: &[u8], count: usize, o: &mut [u8])
     requires { (count * record_length 6 ≤ length rest.now) × (count * 32 ≤ length o.old) }
     ensures { o.new ≡ sets o.old 0 (carried_all count rest.now) }
 {
-    let mut from = 1 + format::PieceRecord::BYTES;
-    let mut to = 0;
     for i in 0..count {
-        copies::copy32(rest, from, o, to);
-        from += format::PieceRecord::WHOLE;
-        to += format::PieceRecord::FULL;
+        let from = i * format::PieceRecord::WHOLE + 1 + format::PieceRecord::BYTES;
+        copies::copy32(rest, from, o, i * format::PieceRecord::FULL);
     }
 }
 
@@ -322,13 +311,10 @@ fn put_pieces(kind: u8, b: &[u8], rest: &[u8], o: &mut [u8]) -> Step
 fn leads_row(kind: u8) -> bool
     ensures { result ≡ (eqb kind 5 || eqb kind 7 || eqb kind 11) }
 {
-    if kind == format::TextRecord::KIND {
-        return true;
-    }
-    if kind == format::OpaqueRecord::KIND {
-        return true;
-    }
-    kind == format::HrrRecord::KIND
+    matches!(
+        kind,
+        format::TextRecord::KIND | format::OpaqueRecord::KIND | format::HrrRecord::KIND
+    )
 }
 
 // That row, which rest begins with.
@@ -372,26 +358,20 @@ pub fn spell(x: &[u8], o: &mut [u8])
     let mut to = format::HeaderRecord::LEN;
     let mut begins = 1;
     let mut ends = format::HeaderRecord::WHOLE;
-    loop {
-        match sheet_walk::record_at(x, at) {
-            Place::End => return,
-            Place::Cut => return,
-            Place::Whole(kind, end) => {
-                let from = at + 1;
-                let step = put_next(
-                    kind,
-                    &x[begins..ends],
-                    &x[from..end],
-                    &x[end..],
-                    &mut o[to..],
-                );
-                to += step.written;
-                at = end + step.read;
-                if !sheet_walk::is_follower(kind) {
-                    begins = from;
-                    ends = end;
-                }
-            }
+    while let Place::Whole(kind, end) = sheet_walk::record_at(x, at) {
+        let from = at + 1;
+        let step = put_next(
+            kind,
+            &x[begins..ends],
+            &x[from..end],
+            &x[end..],
+            &mut o[to..],
+        );
+        to += step.written;
+        at = end + step.read;
+        if !sheet_walk::is_follower(kind) {
+            begins = from;
+            ends = end;
         }
     }
 }

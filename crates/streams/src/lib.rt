@@ -3,148 +3,70 @@
 // interrupts is made again. Nothing is allocated.
 #![tactic(auto)]
 
-ghost use Rattle.std.specs.Prelude.{ℕ, ◌≤◌, length, IfOk};
-ghost use Rattle.streams.specs.InnerWithin.{CallWithin, GotWithin, InputWithin};
+ghost use Rattle.std.specs.Prelude.{◌≤◌, length, IfOk};
 
-use std::io::{Cursor, Read, Write};
+use std::io::{Cursor, ErrorKind, Read, Write};
 use std::str::from_utf8;
 use std::{fmt, io};
 
-// What one read gave.
-#[derive(Clone, Copy)]
-pub enum Got {
-    // So many bytes, one at least.
-    Bytes(usize),
-    // The input is at its end.
-    End,
-    // The read failed, which has been said.
-    Failed,
-}
+// A read or a write failed, which has been said.
+#[derive(Clone, Copy, Debug, PartialEq, Eq, Drop)]
+pub struct Failed;
 
-// What reading to the end, or until the lent memory is full, gave.
-#[derive(Clone, Copy)]
-pub enum Input {
-    // So many bytes.
-    Read(usize),
-    // A read failed, which has been said. What came before it is not the input.
-    Lost,
-}
-
-// What one call of the system gave.
-#[derive(Clone, Copy)]
-enum Call {
-    // It moved so many bytes.
-    Moved(usize),
-    // A signal came first: nothing was moved, and the call is to be made again.
-    Interrupted,
-    // It failed, and the error says why.
-    Error(io::Error),
-}
-
-// What a call gave that answered `called`: what bounds the bytes of the one bounds those of the other.
-fn given(called: io::Result<usize>) -> Call
-    ensures { (n : ℕ) → IfOk called (λ k. k ≤ n) → CallWithin n result }
-{
-    match called {
-        Ok(n) => Call::Moved(n),
-        Err(e) => {
-            if e.kind() == io::ErrorKind::Interrupted {
-                Call::Interrupted
-            } else {
-                Call::Error(e)
-            }
-        }
-    }
-}
-
-// One read of standard input, to the front of o.
-fn read_once(rt: &impl io::Input, o: &mut [u8]) -> Call
-    ensures { CallWithin (length o.new) result }
-{
-    given(rt.reader().read(o))
-}
-
-// One write of s to standard output.
-fn write_once(rt: &impl Print, s: &[u8]) -> Call
-    ensures { CallWithin (length s.now) result }
-{
-    given(rt.write_some(s))
-}
-
-// Why a call is given up that was interrupted at every turn.
-fn interrupted() -> io::Error {
-    io::Error::from(io::ErrorKind::Interrupted)
-}
-
-fn bytes_or_end(n: usize) -> Got
-    ensures { GotWithin n result }
-{
-    if n == 0 { Got::End } else { Got::Bytes(n) }
-}
-
-// Some bytes of standard input, at the front of o. Where o has no room, nothing read would look like the end of the input.
-// A proved loop has to end, and nothing says that signals do: so it has more turns than any run uses up.
-pub fn read_some(rt: &(impl io::Input + Eprint), what: &[u8], o: &mut [u8]) -> Got
+// Some bytes of standard input, at the front of o; answers how many, and 0 at the end of the input. Where o has no room, nothing read
+// would look like the end of the input. A proved loop has to end, and nothing says that signals do: so it has more turns than any run
+// uses up.
+pub fn read_some(rt: &(impl io::Input + Eprint), what: &[u8], o: &mut [u8]) -> Result<usize, Failed>
     requires { 1 ≤ length o.old }
-    ensures { GotWithin (length o.old) result }
+    ensures { IfOk result (λ n. n ≤ length o.old) }
 {
     for _ in 0..u64::MAX {
-        match read_once(rt, o) {
-            Call::Moved(n) => {
-                return bytes_or_end(n);
+        match rt.reader().read(o) {
+            Ok(n) => {
+                return Ok(n);
             }
-            Call::Interrupted => {}
-            Call::Error(e) => {
-                fail(rt, what, e);
-                return Got::Failed;
+            Err(e) if e.kind() == ErrorKind::Interrupted => {}
+            Err(e) => {
+                return Err(fail(rt, what, e));
             }
         }
     }
-    fail(rt, what, interrupted());
-    Got::Failed
+    Err(fail(rt, what, io::Error::from(ErrorKind::Interrupted)))
 }
 
-// All of standard input, or as much of it as o has room for.
-pub fn read_all(rt: &(impl io::Input + Eprint), what: &[u8], o: &mut [u8]) -> Input
-    ensures { InputWithin (length o.new) result }
+// All of standard input, or as much of it as o has room for; answers how many bytes. What came before a read that failed is not the input.
+pub fn read_all(rt: &(impl io::Input + Eprint), what: &[u8], o: &mut [u8]) -> Result<usize, Failed>
+    ensures { IfOk result (λ n. n ≤ length o.new) }
 {
     let mut n = 0;
     while n < o.len() {
-        match read_some(rt, what, &mut o[n..]) {
-            Got::Bytes(k) => {
-                n += k;
-            }
-            Got::End => {
-                return Input::Read(n);
-            }
-            Got::Failed => {
-                return Input::Lost;
-            }
+        let k = read_some(rt, what, &mut o[n..])?;
+        if k == 0 {
+            return Ok(n);
         }
+        n += k;
     }
-    Input::Read(n)
+    Ok(n)
 }
 
-// Writes s to standard output, and answers whether all of it was taken.
-pub fn write_all(rt: &(impl Print + Eprint), what: &[u8], s: &[u8]) -> bool {
-    let mut n = 0;
+// Writes s, all of it, to standard output.
+pub fn write_all(rt: &(impl Print + Eprint), what: &[u8], s: &[u8]) -> Result<(), Failed> {
+    let mut rest = s;
     for _ in 0..u64::MAX {
-        if n >= s.len() {
-            return true;
+        if rest.is_empty() {
+            return Ok(());
         }
-        match write_once(rt, &s[n..]) {
-            Call::Moved(k) => {
-                n += k;
+        match rt.write_some(rest) {
+            Ok(n) => {
+                rest = &rest[n..];
             }
-            Call::Interrupted => {}
-            Call::Error(e) => {
-                fail(rt, what, e);
-                return false;
+            Err(e) if e.kind() == ErrorKind::Interrupted => {}
+            Err(e) => {
+                return Err(fail(rt, what, e));
             }
         }
     }
-    fail(rt, what, interrupted());
-    false
+    Err(fail(rt, what, io::Error::from(ErrorKind::Interrupted)))
 }
 
 // Says on standard error why there is no answer.
@@ -153,21 +75,22 @@ pub fn complain(rt: &impl Eprint, line: &[u8]) {
 }
 
 // Says on standard error what failed, as the caller names it, and why. Where that can't be said either, nothing is left to be done.
-fn fail(rt: &impl Eprint, what: &[u8], e: io::Error) {
+fn fail(rt: &impl Eprint, what: &[u8], e: io::Error) -> Failed {
     let (text, n) = text_of(e);
     let what = Words(what);
     let why = Words(reason(&text[..n]));
     let _ = eprintln!(rt; "{what}: {why}");
+    Failed
 }
 
 // What std says of an error, at the front, and how long that is.
+// Kept: an array and a length, since nothing is allocated and no slice of a local can be handed out.
 fn text_of(e: io::Error) -> ([u8; 256], usize)
     ensures { result.1 ≤ 256 }
 {
     let mut text = Cursor::new([0u8; 256]);
     let _ = write!(text, "{e}");
-    let n = text.position();
-    let n = if n < 256 { n as usize } else { 256 };
+    let n = text.position().min(256) as usize;
     (text.into_inner(), n)
 }
 

@@ -1,2 +1,2 @@
-pub mod Together
 pub mod Lines
+pub mod Together

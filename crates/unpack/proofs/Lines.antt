@@ -19,25 +19,38 @@ use Rattle.copies.proofs.Stores.{sets-again}
 use Rattle.mask.specs.Fields.{announced, announced_length, full_fields}
 use Rattle.mask.proofs.FullWidth.{length-full, announced-append, full-append}
 use Rattle.mask.proofs.Bit.{set-and, set-none}
-use Rattle.unpack.specs.InnerLaid.{Room, Laid, Clear}
+use Rattle.unpack.specs.declared.Cursor.{Cursor}
+use Rattle.unpack.specs.InnerLaid.{RoomFor, Stored, Moved, Clear}
 use Rattle.unpack.proofs.Together.{all_set, none_set}
 
 -- ---- lines
 
--- fields of the widths us laid out, then of the widths vs where they end, are fields of both laid out
-pub onward : {mask n p q r t : ℕ} {us vs s l a b : List ℕ}
-    → Laid mask n us s p l q r a → Laid mask (n + length us) vs s r a (q + total us) t b → Laid mask n (us ++ vs) s p l q t b
-onward {mask} {n} {p} {q} {r} {t} {us} {vs} {s} {l} {a} {b} f g =
-    let m = announced_length mask n us in
-    let rest : List ℕ → List ℕ = λ x. full_fields mask (n + length us) vs x in
-    record {
-      next = g.next ∙ rw (f.next, add_assoc p m (announced_length mask (n + length us) vs), announced-append mask n us vs);
-      stored =
-          then (full_fields mask n us (drop p s)) (rest (drop (p + m) s)) l q (total us) f.stored (length-full mask n us (drop p s))
-          (g.stored ∙ ap (λ (x : ℕ). sets a (q + total us) (rest (drop x s))) f.next)
-          ∙ ap (sets l q)
-          (ap (λ (x : List ℕ). full_fields mask n us (drop p s) ++ rest x) (sym (drop-drop m p s)) ∙ sym (full-append mask n us vs (drop p s)));
-    }
+-- the lengths of two lines
+pub total-append : (us vs : List ℕ) → total (us ++ vs) ≡ total us + total vs
+unfolding total
+total-append [] vs = omega arith
+total-append (u ∷ us) vs = omega (arith, total-append us vs)
+
+module _ {n : ℕ} {us vs : List ℕ} {u v w : Cursor} where
+  -- fields of the widths us laid out, then of the widths vs where they end, are fields of both laid out
+  pub onward : Moved n us u v → Moved (n + length us) vs v w → Moved n (us ++ vs) u w
+  onward f g =
+      let m = announced_length u.mask n us in
+      let s = u.s.now in
+      let rest : List ℕ → List ℕ = λ x. full_fields u.mask (n + length us) vs x in
+      record {
+        next = g.next ∙ rw (f.next, f.masked, add_assoc u.p m (announced_length u.mask (n + length us) vs), announced-append u.mask n us vs);
+        behind = g.behind ∙ rw (f.behind, add_assoc u.q (total us) (total vs), total-append us vs);
+        stored =
+            then (full_fields u.mask n us (drop u.p s)) (rest (drop (u.p + m) s)) u.o.now u.q (total us) f.stored (length-full u.mask n us (drop u.p s))
+            (g.stored ∙ rw (f.behind, f.masked, f.next, f.given))
+            ∙ ap (sets u.o.now u.q)
+            (ap (λ (x : List ℕ). full_fields u.mask n us (drop u.p s) ++ rest x) (sym (drop-drop m u.p s)) ∙ sym (full-append u.mask n us vs (drop u.p s)));
+        long = g.long ∙ f.long;
+        given = g.given ∙ f.given;
+        masked = g.masked ∙ f.masked;
+        lent = g.lent ∙ f.lent;
+      }
 
 -- ---- blocks: fields that are announced together, or not at all
 
@@ -88,31 +101,47 @@ none-full mask n (w ∷ ws) b h =
     let k = (and-eq-true_iff (not (announced mask n)) (none_set mask (suc n) ws)).0 h in rw (not-true (announced mask n) k.0, none-full mask (suc n) ws b k.1, zeros-append w (total ws))
 
 -- what is announced whole is laid out by a copy; what is not announced at all, by zeros. One field is a block of one
-module _ {mask n p q : ℕ} {ws s l : List ℕ} where
-  pub block_needs : Room mask n ws s p l q → all_set mask n ws ≡ true → (p + total ws ≤ length s) × (q + total ws ≤ length l)
-  block_needs h e = omega (arith, all-length mask n ws e)
+module _ {n : ℕ} {ws : List ℕ} {u : Cursor} where
+  pub block_needs : RoomFor n ws u → all_set u.mask n ws ≡ true → (u.p + total ws ≤ length u.s.now) × (u.q + total ws ≤ length u.o.now)
+  block_needs h e = omega (arith, all-length u.mask n ws e, h.held, h.room)
 
-  pub block : {a : List ℕ} → Room mask n ws s p l q → all_set mask n ws ≡ true → a ≡ sets l q (take (total ws) (drop p s)) → Laid mask n ws s p l q (p + total ws) a
-  block h e ha =
-      let k = block_needs h e in
-      record {
-        next = ap (λ (m : ℕ). p + m) (sym (all-length mask n ws e));
-        stored = ha ∙ ap (sets l q) (sym (all-full mask n ws (drop p s) e (rw (length-drop p s) (omega arith))));
-      }
+  module _ {v : Cursor} {k : ℕ} where
+    pub block : k ≡ total ws → RoomFor n ws u → all_set u.mask n ws ≡ true → Stored k k (sets u.o.now u.q (take k (drop u.p u.s.now))) u v → Moved n ws u v
+    block i h e f =
+        let needs = block_needs h e in
+        record {
+          next = f.next ∙ ap (λ (m : ℕ). u.p + m) (i ∙ sym (all-length u.mask n ws e));
+          behind = f.behind ∙ ap (λ (m : ℕ). u.q + m) i;
+          stored = f.stored ∙ ap (λ (m : ℕ). sets u.o.now u.q (take m (drop u.p u.s.now))) i ∙ ap (sets u.o.now u.q) (sym (all-full u.mask n ws (drop u.p u.s.now) e (rw (length-drop u.p u.s.now) (omega (arith, needs)))));
+          long = f.long;
+          given = f.given;
+          masked = f.masked;
+          lent = f.lent;
+        }
 
-  pub blank : {a : List ℕ} → none_set mask n ws ≡ true → a ≡ sets l q (pad (total ws) []) → Laid mask n ws s p l q p a
-  blank e ha = record { next = omega (arith, none-length mask n ws e); stored = ha ∙ ap (sets l q) (sym (none-full mask n ws (drop p s) e)) }
+    pub blank : k ≡ total ws → none_set u.mask n ws ≡ true → Stored 0 k (sets u.o.now u.q (pad k [])) u v → Moved n ws u v
+    blank i e f =
+        record {
+          next = f.next ∙ ap (λ (m : ℕ). u.p + m) (sym (none-length u.mask n ws e));
+          behind = f.behind ∙ ap (λ (m : ℕ). u.q + m) i;
+          stored = f.stored ∙ ap (λ (m : ℕ). sets u.o.now u.q (pad m [])) i ∙ ap (sets u.o.now u.q) (sym (none-full u.mask n ws (drop u.p u.s.now) e));
+          long = f.long;
+          given = f.given;
+          masked = f.masked;
+          lent = f.lent;
+        }
 
   -- the same by a test of the set of these fields
   module _ {b : Bool} (set : ℕ) where
-    pub copied-needs : Room mask n ws s p l q → b ≡ eqb (bit_and mask set) set → b ≡ true → all_set set n ws ≡ true → (p + total ws ≤ length s) × (q + total ws ≤ length l)
-    copied-needs h e t every = block_needs h (all_of mask set n ws (eqb-true _ _ (sym e ∙ t)) every)
+    pub copied-needs : RoomFor n ws u → b ≡ eqb (bit_and u.mask set) set → b ≡ true → all_set set n ws ≡ true → (u.p + total ws ≤ length u.s.now) × (u.q + total ws ≤ length u.o.now)
+    copied-needs h e t every = block_needs h (all_of u.mask set n ws (eqb-true _ _ (sym e ∙ t)) every)
 
-    pub copied : {a : List ℕ} → Room mask n ws s p l q → b ≡ eqb (bit_and mask set) set → b ≡ true → all_set set n ws ≡ true → a ≡ sets l q (take (total ws) (drop p s)) → Laid mask n ws s p l q (p + total ws) a
-    copied h e t every = block h (all_of mask set n ws (eqb-true _ _ (sym e ∙ t)) every)
+    module _ {v : Cursor} where
+      pub copied : RoomFor n ws u → b ≡ eqb (bit_and u.mask set) set → b ≡ true → all_set set n ws ≡ true → Stored (total ws) (total ws) (sets u.o.now u.q (take (total ws) (drop u.p u.s.now))) u v → Moved n ws u v
+      copied h e t every f = block refl h (all_of u.mask set n ws (eqb-true _ _ (sym e ∙ t)) every) f
 
-    pub cleared : {a : List ℕ} → b ≡ eqb (bit_and mask set) 0 → b ≡ true → all_set set n ws ≡ true → a ≡ sets l q (pad (total ws) []) → Laid mask n ws s p l q p a
-    cleared e t every = blank (none_of mask set n ws (eqb-true _ _ (sym e ∙ t)) every)
+      pub cleared : b ≡ eqb (bit_and u.mask set) 0 → b ≡ true → all_set set n ws ≡ true → Stored 0 (total ws) (sets u.o.now u.q (pad (total ws) [])) u v → Moved n ws u v
+      cleared e t every f = blank refl (none_of u.mask set n ws (eqb-true _ _ (sym e ∙ t)) every) f
 
 -- ---- onto zeros
 
@@ -143,20 +172,22 @@ drop-sets [] l i n h = refl
 drop-sets (v ∷ vs) l i n h = drop-sets vs (set l i v) (suc i) n (omega arith) ∙ drop-set-lt n l i v (omega arith)
 
 -- so fields that are laid out leave the zeros behind them
-pub clear_behind : {mask n p q r m : ℕ} {us s l a : List ℕ} (k : ℕ) → total us + k ≤ m → Clear m l q → Laid mask n us s p l q r a → Clear k a (q + total us)
-clear_behind {mask} {n} {p} {q} {us = us} {s} {l} k h c f =
-    let full = full_fields mask n us (drop p s) in
-    let same = ap (drop (q + total us)) f.stored ∙ drop-sets full l q (q + total us) (omega (arith, length-full mask n us (drop p s))) in
-    record { zeros = ap (take k) same ∙ (clear-part (total us) k h c).zeros }
+pub clear_behind : {n m : ℕ} {us : List ℕ} {u v : Cursor} (k : ℕ) → total us + k ≤ m → Clear m u.o.now u.q → Moved n us u v → Clear k v.o.now v.q
+clear_behind {n} {m} {us} {u} {v} k h c f =
+    let full = full_fields u.mask n us (drop u.p u.s.now) in
+    let same = ap (drop (u.q + total us)) f.stored ∙ drop-sets full u.o.now u.q (u.q + total us) (omega (arith, length-full u.mask n us (drop u.p u.s.now))) in
+    record { zeros = ap (λ (x : ℕ). take k (drop x v.o.now)) f.behind ∙ ap (take k) same ∙ (clear-part (total us) k h c).zeros }
 
-module _ {mask n p q : ℕ} {ws s l : List ℕ} where
+module _ {n : ℕ} {ws : List ℕ} {u : Cursor} where
   -- where zeros were stored, they are
-  pub clear-stored : {a : List ℕ} → Room mask n ws s p l q → a ≡ sets l q (pad (total ws) []) → Clear (total ws) a q
+  pub clear-stored : {a : List ℕ} → RoomFor n ws u → a ≡ sets u.o.now u.q (pad (total ws) []) → Clear (total ws) a u.q
   clear-stored h ha =
       let long = length-pad (total ws) [] in
       let z = pad (total ws) [] in
+      let q = u.q in
+      let l = u.o.now in
       let rest = drop (q + length z) l in
-      let i : q + length z ≤ length l = omega (arith, long) in
+      let i : q + length z ≤ length l = omega (arith, long, h.room) in
       record {
         zeros = ap (λ (x : List ℕ). take (total ws) (drop q x)) (ha ∙ sets-eq z l q i ∙ append_assoc (take q l) z rest)
             ∙ ap (take (total ws)) (drop_at (take q l) (z ++ rest) q (length-take-le q l (omega arith)))
@@ -164,24 +195,42 @@ module _ {mask n p q : ℕ} {ws s l : List ℕ} where
       }
 
   -- fields of which none is announced are laid out where their places have zeros already
-  pub blank-there : Room mask n ws s p l q → none_set mask n ws ≡ true → Clear (total ws) l q → Laid mask n ws s p l q p l
-  blank-there h e c =
+  pub blank-there : {v : Cursor} {k : ℕ} → k ≡ total ws → RoomFor n ws u → none_set u.mask n ws ≡ true → Clear k u.o.now u.q → Stored 0 k u.o.now u v → Moved n ws u v
+  blank-there {k = k} j h e c₀ f =
+      let c : Clear (total ws) u.o.now u.q = record { zeros = rw (← j) c₀.zeros } in
       let long = length-pad (total ws) [] in
       let z = pad (total ws) [] in
-      let i : q + length z ≤ length l = omega (arith, long) in
+      let q = u.q in
+      let l = u.o.now in
+      let i : q + length z ≤ length l = omega (arith, long, h.room) in
       let there : z ++ drop (q + length z) l ≡ drop q l =
       ap (λ (m : ℕ). z ++ drop (q + m) l) long ∙ ap (λ (x : List ℕ). z ++ x) (sym (drop-drop (total ws) q l))
       ∙ ap (λ (x : List ℕ). x ++ drop (total ws) (drop q l)) (sym c.zeros) ∙ take-append-drop (total ws) (drop q l) in
-      blank e
-      (sym
-      (sets-eq z l q i ∙ append_assoc (take q l) z (drop (q + length z) l) ∙ ap (λ (x : List ℕ). take q l ++ x) there ∙ take-append-drop q l))
+      let same : l ≡ sets l q z =
+      sym (sets-eq z l q i ∙ append_assoc (take q l) z (drop (q + length z) l) ∙ ap (λ (x : List ℕ). take q l ++ x) there ∙ take-append-drop q l) in
+      blank refl e (record { next = f.next; behind = f.behind ∙ ap (λ (m : ℕ). u.q + m) j; stored = f.stored ∙ same; long = f.long; given = f.given; masked = f.masked; lent = f.lent })
 
   -- fields laid out where zeros were stored before are laid out
-  pub onto-zeros : {r : ℕ} {a b : List ℕ} → a ≡ sets l q (pad (total ws) []) → Laid mask n ws s p a q r b → Laid mask n ws s p l q r b
-  onto-zeros ha f =
-      let full = full_fields mask n ws (drop p s) in
+  pub onto-zeros : {v w : Cursor} → Stored 0 0 (sets u.o.now u.q (pad (total ws) [])) u v → Moved n ws v w → Moved n ws u w
+  onto-zeros {v} {w} g f =
+      let full = full_fields u.mask n ws (drop u.p u.s.now) in
+      let p : v.p ≡ u.p = omega (arith, g.next) in
+      let q : v.q ≡ u.q = omega (arith, g.behind) in
+      let there : sets v.o.now v.q (full_fields v.mask n ws (drop v.p v.s.now)) ≡ sets v.o.now u.q full = rw (q, g.masked, p, g.given) in
       record {
-        next = f.next;
-        stored = f.stored ∙ ap (λ (x : List ℕ). sets x q full) ha
-            ∙ sets-again (pad (total ws) []) full l q (omega (arith, length-pad (total ws) [], length-full mask n ws (drop p s)));
+        next = f.next ∙ rw (p, g.masked);
+        behind = f.behind ∙ ap (λ (x : ℕ). x + total ws) q;
+        stored = f.stored ∙ there ∙ ap (λ (x : List ℕ). sets x u.q full) g.stored
+            ∙ sets-again (pad (total ws) []) full u.o.now u.q (omega (arith, length-pad (total ws) [], length-full u.mask n ws (drop u.p u.s.now)));
+        long = f.long ∙ g.long;
+        given = f.given ∙ g.given;
+        masked = f.masked ∙ g.masked;
+        lent = f.lent ∙ g.lent;
       }
+
+-- ---- blocks that end where they are said to end
+
+-- what is laid out, where the next place on the sheet is worked out from the first
+pub ending : {n k : ℕ} {ws : List ℕ} {u v : Cursor} → k ≡ u.q + total ws → Moved n ws u v
+    → Moved n ws u (record { s = v.s; p = v.p; mask = v.mask; o = v.o; q = k })
+ending e f = record { next = f.next; behind = e; stored = f.stored; long = f.long; given = f.given; masked = f.masked; lent = f.lent }

@@ -1,62 +1,64 @@
-// One announced field laid out at its full width: from p on in s, to q on in o; each of `field1`, `field2`, `field2_onto_zeros` and `field4`
-// answers where the next field begins in s. The functions of dwells and targets, which lay out several, promise the same over longer lists of
-// widths.
+// Announced fields on their way between a packet and a sheet, one after another, and laid out there at their full widths. The functions of
+// dwells, targets and HRR segments, which lay out several, promise the same over longer lists of widths.
 #![tactic(auto)]
 
-ghost use Rattle.std.specs.Prelude.{◌≡◌, [], ◌∷◌, ◌≤◌, eqb};
+ghost use Rattle.std.specs.Prelude.{◌≡◌, [], ◌∷◌, ◌+◌, ◌≤◌, eqb, length};
 ghost use Rattle.std.specs.Int.Bits.{bit_and};
-ghost use Rattle.unpack.specs.InnerLaid.{Room, Laid, Clear};
+ghost use Rattle.copies.specs.InnerCopied.{copied, cleared};
+ghost use Rattle.unpack.specs.InnerLaid.{RoomFor, Moved, Stored, Clear};
 
-pub fn field1(s: &[u8], p: usize, mask: u64, n: usize, o: &mut [u8], q: usize) -> usize
-    requires { (2 ≤ n) × (n ≤ 65) × Room mask n (1 ∷ []) s.now p o.old q }
-    ensures { Laid mask n (1 ∷ []) s.now p o.old q result o.new }
-{
-    if mask::has(mask, n) {
-        copies::copy1(s, p, o, q);
-        p + 1
-    } else {
-        copies::clear1(o, q);
-        p
-    }
+// How far fields with this mask have got: from p on in s, to q on in o.
+#[derive(Drop)]
+pub struct Cursor<'a> {
+    pub s: &'a [u8],
+    pub p: usize,
+    pub mask: u64,
+    pub o: &'a mut [u8],
+    pub q: usize,
 }
 
-pub fn field2(s: &[u8], p: usize, mask: u64, n: usize, o: &mut [u8], q: usize) -> usize
-    requires { (2 ≤ n) × (n ≤ 65) × Room mask n (2 ∷ []) s.now p o.old q }
-    ensures { Laid mask n (2 ∷ []) s.now p o.old q result o.new }
-{
-    if mask::has(mask, n) {
-        copies::copy2(s, p, o, q);
-        p + 2
-    } else {
-        copies::clear2(o, q);
-        p
+impl Cursor<'_> {
+    // Field n, of N bytes.
+    pub fn field<const N: usize>(&mut self, n: usize)
+        requires { (2 ≤ n) × (n ≤ 65) × RoomFor n (N ∷ []) self.old }
+        ensures { Moved n (N ∷ []) self.old self.new }
+    {
+        if mask::has(self.mask, n) {
+            self.block::<N>();
+        } else {
+            self.blank(N);
+        }
     }
-}
 
-// The same onto zeros: an absent field stores nothing, and both bytes of an announced one are one move. For a field of one byte this is
-// no faster than `field1`.
-pub fn field2_onto_zeros(s: &[u8], p: usize, mask: u64, n: usize, o: &mut [u8], q: usize) -> usize
-    requires { (2 ≤ n) × (n ≤ 65) × Room mask n (2 ∷ []) s.now p o.old q × Clear 2 o.old q }
-    ensures { Laid mask n (2 ∷ []) s.now p o.old q result o.new }
-{
-    if mask::has(mask, n) {
-        copies::copy2(s, p, o, q);
-        p + 2
-    } else {
-        p
+    // The same onto zeros: an absent field stores nothing, and an announced one is one move. For a field of one byte this is no faster.
+    pub fn field_onto_zeros<const N: usize>(&mut self, n: usize)
+        requires { (2 ≤ n) × (n ≤ 65) × RoomFor n (N ∷ []) self.old × Clear N self.old.o.now self.old.q }
+        ensures { Moved n (N ∷ []) self.old self.new }
+    {
+        if mask::has(self.mask, n) {
+            self.block::<N>();
+        } else {
+            self.q += N;
+        }
     }
-}
 
-pub fn field4(s: &[u8], p: usize, mask: u64, n: usize, o: &mut [u8], q: usize) -> usize
-    requires { (2 ≤ n) × (n ≤ 65) × Room mask n (4 ∷ []) s.now p o.old q }
-    ensures { Laid mask n (4 ∷ []) s.now p o.old q result o.new }
-{
-    if mask::has(mask, n) {
-        copies::copy4(s, p, o, q);
-        p + 4
-    } else {
-        copies::clear4(o, q);
-        p
+    // A block of N bytes, of fields that are all announced.
+    pub fn block<const N: usize>(&mut self)
+        requires { (self.old.p + N ≤ length self.old.s.now) × (self.old.q + N ≤ length self.old.o.now) }
+        ensures { Stored N N (copied N self.old.s.now self.old.p self.old.o.now self.old.q) self.old self.new }
+    {
+        copies::copy::<N>(self.s, self.p, self.o, self.q);
+        self.p += N;
+        self.q += N;
+    }
+
+    // A block of n bytes, of fields of which none is announced.
+    pub fn blank(&mut self, n: usize)
+        requires { self.old.q + n ≤ length self.old.o.now }
+        ensures { Stored 0 n (cleared n self.old.o.now self.old.q) self.old self.new }
+    {
+        copies::clear(self.o, self.q, n);
+        self.q += n;
     }
 }
 

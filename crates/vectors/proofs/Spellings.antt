@@ -1,107 +1,96 @@
 -- The cases of characters, the turns of the loops over text, and the lines that are written.
 -- Assumes nothing.
-use mathlib.Core.Path.{◌≡◌, refl, ◌∙◌}
-use mathlib.Core.Bool.{Bool, true, false, ◌&&◌, cond, and-false, and-eq-true_iff}
+use mathlib.Core.Path.{◌≡◌, refl, sym, ap, ◌∙◌}
+use mathlib.Core.Bool.{Bool, true, false, ◌&&◌, cond, and-true, and-false, and-eq-true_iff}
 use mathlib.Core.List.{List, [], ◌∷◌, ◌++◌}
 use Prim.Native.Nat.{ℕ, zero, suc, ◌+◌, ◌-◌, ◌*◌, ◌/◌, ◌%◌, ◌≤◌, ◌<◌}
 use native.Mathlib.Nat.{add-zero}
 use native.Mathlib.Numerals.{add-one}
 use native.Mathlib.Omega.{arith}
-use borrow.Author.Tests.{lt-ltb, le-ltb, le-leb, lt-leb, ltb-true, leb-true}
+use borrow.Author.Tests.{lt-ltb, le-ltb, ltb-true, lt-leb, leb-true, leb-false}
 use lib.Dec.{ltb, leb, eqb}
-use lib.ListN.{length, get_or, drop, set, length-set, length-append, drop_of_length-le, get_or-eq_default}
+use lib.ListN.{length, get_or, take, drop, set, length-drop, length-set, length-append, drop_of_length-le}
 use lib.Seq.{sets, drop-cons, drop-drop, get_or-drop}
-use Rattle.format.specs.declared.Answer.{Answer}
+use Rattle.std.proofs.Common.{Option, Some, None, Ok, Err, IsOk, SomeIff, unwrap_or, is_some}
+use Rattle.std.proofs.lemmas.Bool.Decides.{nat_tests}
+use Rattle.std.specs.Char.{digit_value as std_value, is_ascii_digit}
+use Rattle.std.specs.List.{list_all, starts_with}
+use Rattle.std.proofs.lemmas.List.{take_all}
+use Rattle.format.specs.Answer.{Answer}
 use Rattle.printing.specs.Printing.{answer_text}
-use Rattle.printing.proofs.Lines.{Laid, laid-join, laid-byte, laid_word}
-use Rattle.vectors.specs.Vectors.{is_colon, is_digit, are_digits, with_digit, spelt, nibble, is_hex, hex_fault, pairs, hex_digit, hexed, fault_text, unread_line, vector_line}
+use Rattle.printing.proofs.Lines.{Laid, laid-join, laid-byte}
+use Rattle.vectors.specs.Vectors.{is_colon, is_digit, are_digits, is_number, with_digit, spelt, number_of, nibble, is_hex, hex_fault, pairs, hex_digit, hexed, fault_text, unread_line, vector_line}
 use Rattle.vectors.specs.declared.Fault.{Fault}
-use Rattle.vectors.specs.declared.Fault.TheVariants.{Nothing, Form, Number, Digit, Half, Length}
+use Rattle.vectors.specs.declared.Fault.TheVariants.{Digit, Half}
 
--- a range of characters, and one that is in it or not
-module _ (a b c : ℕ) where
-  range-in : a ≤ c → c ≤ b → (leb a c && leb c b) ≡ true
-  range-in h k = rw (le-leb a c h, le-leb c b k)
+-- std's test of the first bytes
+pub eqb-sym : (x y : ℕ) → eqb x y ≡ eqb y x
+eqb-sym x y = grind (arith, nat_tests)
 
-  range-out : (a ≤ c → b < c) → (leb a c && leb c b) ≡ false
-  range-out h = go (leb a c) refl
-    where
-      go : (x : Bool) → leb a c ≡ x → (x && leb c b) ≡ false
-      go true e = lt-leb c b (h (leb-true a c e))
-      go false e = refl
+colon_is : (s : List ℕ) → starts_with eqb s (58 ∷ 32 ∷ []) ≡ is_colon s
+unfolding is_colon
+colon_is [] = refl
+colon_is (x ∷ []) = simp and-false
+colon_is (x ∷ y ∷ s) = rw (eqb-sym 58 x, eqb-sym 32 y, and-true)
 
--- the values of the three ranges of hex digits, and of a byte that is in none
-module _ (c : ℕ) where
-  pub nibble-digit : 48 ≤ c → c ≤ 57 → nibble c ≡ c - 48
-  unfolding nibble
-  nibble-digit h k = rw (range-in 48 57 c h k)
-
-  pub nibble-capital : 65 ≤ c → c ≤ 70 → nibble c ≡ c - 55
-  unfolding nibble
-  nibble-capital h k = rw (range-out 48 57 c (λ x. omega arith), range-in 65 70 c h k)
-
-  pub nibble-small : 97 ≤ c → c ≤ 102 → nibble c ≡ c - 87
-  unfolding nibble
-  nibble-small h k = rw (range-out 48 57 c (λ x. omega arith), range-out 65 70 c (λ x. omega arith), range-in 97 102 c h k)
-
-  pub nibble-none : ((48 ≤ c → 57 < c) × (65 ≤ c → 70 < c) × (97 ≤ c → 102 < c)) → nibble c ≡ 16
-  unfolding nibble
-  nibble-none h = rw (range-out 48 57 c h.0, range-out 65 70 c h.1, range-out 97 102 c h.2)
-
--- a colon and a space at a place of the text, and no room for them
-module _ (s : List ℕ) (at : ℕ) where
-  pub colon-at : is_colon (drop at s) ≡ (eqb (get_or s at 0) 58 && eqb (get_or s (at + 1) 0) 32)
-  unfolding is_colon
-  colon-at = rw (get_or-drop at s 0 0, get_or-drop at s 1 0, add-zero)
-
-  pub colon-short : length s < at + 2 → is_colon (drop at s) ≡ false
-  colon-short h =
-      let e : get_or s (at + 1) 0 ≡ 0 = get_or-eq_default s 0 (omega arith) in
-      rw (colon-at, e, and-false)
+pub colon_at : (s : List ℕ) (at : ℕ) {r : Bool} → r ≡ starts_with eqb (take (length s - at) (drop at s)) (58 ∷ 32 ∷ []) → r ≡ is_colon (drop at s)
+colon_at s at e = e ∙ ap (λ (t : List ℕ). starts_with eqb t (58 ∷ 32 ∷ [])) (take_all (length s - at) (drop at s) (omega (arith, length-drop at s))) ∙ colon_is (drop at s)
 
 -- a digit is in its range
 pub digit-range : (c : ℕ) → is_digit c ≡ true → (48 ≤ c) × (c ≤ 57)
 unfolding is_digit
 digit-range c h = let e = (and-eq-true_iff (leb 48 c) (leb c 57)).0 h in (leb-true 48 c e.0, leb-true c 57 e.1)
 
--- a test of text that is the test p of each character
-pub record Each (p : ℕ → Bool) (all : List ℕ → Bool) : Type 0 where
-  pub none : all [] ≡ true
-  pub more : (c : ℕ) (s : List ℕ) → all (c ∷ s) ≡ (p c && all s)
+-- the tests of text that std's search makes of each character
+digits-all : (s : List ℕ) → list_all is_ascii_digit s ≡ are_digits s
+unfolding are_digits is_digit
+digits-all [] = refl
+digits-all (c ∷ s) = rw (digits-all s)
 
-pub digits-each : Each is_digit are_digits
-unfolding are_digits
-digits-each = record { none = refl; more = λ c s. refl }
+pub number_is : (s : List ℕ) {r : Bool} → r ≡ list_all is_ascii_digit s → 0 < length s → r ≡ is_number s
+unfolding is_number
+number_is s e h = rw (e, lt-ltb 0 (length s) h, digits-all s, and-true)
 
-pub hex-each : Each (λ c. ltb (nibble c) 16) is_hex
+pub number-none : (s : List ℕ) → length s ≡ 0 → false ≡ is_number s
+unfolding is_number
+number-none s h = rw (h, and-false)
+
+pub hex-all : (s : List ℕ) → list_all (λ c. ltb (nibble c) 16) s ≡ is_hex s
 unfolding is_hex
-hex-each = record { none = refl; more = λ c s. refl }
+hex-all [] = refl
+hex-all (c ∷ s) = rw (hex-all s)
 
-module _ {p : ℕ → Bool} {all : List ℕ → Bool} (w : Each p all) where
-  -- a character further, the first that fails, and the end
-  pub each_next : (s : List ℕ) (i : ℕ) → i < length s → p (get_or s i 0) ≡ true → all (drop (i + 1) s) ≡ all (drop i s)
-  each_next s i h e = rw (drop-cons s i 0 h, w.more, e, add-one i)
+-- the value of a hex digit is the one that std gives it
+nibble-is : (c : ℕ) → nibble c ≡ cond (ltb (std_value c) 16) (std_value c) 16
+unfolding nibble
+nibble-is c = grind (arith, nat_tests)
 
-  pub each-fails : (s : List ℕ) (i : ℕ) → i < length s → p (get_or s i 0) ≡ false → all (drop i s) ≡ false
-  each-fails s i h e = rw (drop-cons s i 0 h, w.more, e)
-
-  pub each-end : (s : List ℕ) (i : ℕ) → length s ≤ i → all (drop i s) ≡ true
-  each-end s i h = rw (drop_of_length-le s h, w.none)
-
-  -- where the text passes, each character does
-  each_at : (s : List ℕ) (i : ℕ) → all s ≡ true → i < length s → p (get_or s i 0) ≡ true
-  each_at [] i h k = absurd (omega arith)
-  each_at (c ∷ s) zero h k = ((and-eq-true_iff (p c) (all s)).0 (rw w.more at h)).0
-  each_at (c ∷ s) (suc i) h k = each_at s i ((and-eq-true_iff (p c) (all s)).0 (rw w.more at h)).1 (omega arith)
+pub nibble-given : (c : ℕ) (r : Option ℕ) → SomeIff r (std_value c < 16) (std_value c) → (unwrap_or r 16 ≡ nibble c) × (is_some r ≡ ltb (nibble c) 16)
+nibble-given c None h =
+    let n : nibble c ≡ 16 = nibble-is c ∙ ap (λ (t : Bool). cond t (std_value c) 16) (le-ltb (std_value c) 16 (omega (arith, h))) in
+    rw n (refl, refl)
+nibble-given c (Some d) h =
+    let n : nibble c ≡ d = nibble-is c ∙ ap (λ (t : Bool). cond t (std_value c) 16) (lt-ltb (std_value c) 16 h.0) ∙ sym h.1 in
+    rw n (refl, sym (lt-ltb d 16 (omega arith)))
 
 -- each digit of text without a fault is below 16
-pub nibble-below : (s : List ℕ) (i : ℕ) → hex_fault s ≡ Nothing → i < length s → nibble (get_or s i 0) < 16
+hex_at : (s : List ℕ) (i : ℕ) → is_hex s ≡ true → i < length s → nibble (get_or s i 0) < 16
+unfolding is_hex
+hex_at [] i h k = absurd (omega arith)
+hex_at (c ∷ s) zero h k = ltb-true (nibble c) 16 ((and-eq-true_iff (ltb (nibble c) 16) (is_hex s)).0 h).0
+hex_at (c ∷ s) (suc i) h k = hex_at s i ((and-eq-true_iff (ltb (nibble c) 16) (is_hex s)).0 h).1 (omega arith)
+
+pub nibble-below : (s : List ℕ) (i : ℕ) → IsOk (hex_fault s) → i < length s → nibble (get_or s i 0) < 16
 unfolding hex_fault
-nibble-below s i h k = ltb-true _ 16 (each_at hex-each s i (go (is_hex s) (eqb (length s % 2) 0) h) k)
+nibble-below s i h k = hex_at s i (go (is_hex s) (eqb (length s % 2) 0) h) k
   where
-    go : (x y : Bool) → cond x (cond y Nothing Half) Digit ≡ Nothing → x ≡ true
+    go : (x y : Bool) → IsOk (cond x (cond y (Ok (tt {0})) (Err Half)) (Err Digit)) → x ≡ true
     go true y e = refl
-    go false y e = cc
+    go false y e = e
+
+-- the value of a digit that was found
+pub nibble-found : {n d : ℕ} {r : Option ℕ} → unwrap_or r 16 ≡ n → r ≡ Some d → d ≡ n
+nibble-found v e = sym (ap (λ (r : Option ℕ). unwrap_or r 16) e) ∙ v
 
 -- one digit more
 pub spelt-turn : (s : List ℕ) (i n : ℕ) → i < length s → spelt (drop (i + 1) s) (with_digit n (get_or s i 0)) ≡ spelt (drop i s) n
@@ -111,6 +100,25 @@ spelt-turn s i n h = rw (drop-cons s i 0 h, add-one i)
 pub spelt-end : (s : List ℕ) (i n : ℕ) → length s ≤ i → spelt (drop i s) n ≡ n
 unfolding spelt
 spelt-end s i n h = rw (drop_of_length-le s h)
+
+-- what a number's being found says, and its not being found
+pub number-some : (s : List ℕ) {n : ℕ} → number_of s ≡ Some n → (is_number s ≡ true) × (n ≡ spelt s 0)
+unfolding number_of
+number-some s {n} h = go (is_number s) (leb (spelt s 0) 4294967295) h
+  where
+    go : (x y : Bool) → cond (x && y) (Some (spelt s 0)) None ≡ Some n → (x ≡ true) × (n ≡ spelt s 0)
+    go true true e = (refl, cc)
+    go true false e = cc
+    go false y e = cc
+
+pub number_missing : (s : List ℕ) (most : ℕ) → most ≤ 4294967295 → number_of s ≡ None → (is_number s && leb (spelt s 0) most) ≡ false
+unfolding number_of
+number_missing s most k h = go (is_number s) (leb (spelt s 0) 4294967295) refl h
+  where
+    go : (x y : Bool) → leb (spelt s 0) 4294967295 ≡ y → cond (x && y) (Some (spelt s 0)) None ≡ None → (x && leb (spelt s 0) most) ≡ false
+    go true true f e = cc
+    go true false f e = lt-leb (spelt s 0) most (omega (arith, leb-false (spelt s 0) 4294967295 f))
+    go false y f e = refl
 
 -- a store more: v at p, and vs behind it
 stored : (l : List ℕ) (p v : ℕ) (vs : List ℕ) → sets (set l p v) (p + 1) vs ≡ sets l p (v ∷ vs)
@@ -177,8 +185,8 @@ unfolding hex_digit
 hex-high d h = rw (le-ltb d 10 h)
 
 -- the parts of a line, in the words of the contracts of `put_name` and `put_hex`
-pub name-laid : (name l : List ℕ) {p : ℕ} {a : List ℕ} → Laid l 0 name p a → Laid l 0 (name ++ (58 ∷ 32 ∷ [])) (p + 2) (set (set a p 58) (p + 1) 32)
-name-laid name l {p} {a} h = laid-join name (58 ∷ 32 ∷ []) l 0 h (laid_word a p 58 32)
+pub name-laid : (name l : List ℕ) {p q : ℕ} {a b : List ℕ} → p ≡ 0 + length name → a ≡ sets l 0 name → q ≡ p + 2 → b ≡ sets a p (58 ∷ 32 ∷ []) → b ≡ sets l 0 (name ++ (58 ∷ 32 ∷ []))
+name-laid name l e h f k = (laid-join name (58 ∷ 32 ∷ []) l 0 (e, h) (f, k)).1
 
 pub label-laid : (name l : List ℕ) {p : ℕ} {a : List ℕ} → p ≡ length name + 2 → a ≡ sets l 0 (name ++ (58 ∷ 32 ∷ [])) → Laid l 0 (name ++ (58 ∷ 32 ∷ [])) p a
 label-laid name l e h = (omega (arith, length-append name (58 ∷ 32 ∷ [])), h)
@@ -198,19 +206,6 @@ line-laid name l sheet x {q = q} {b = b} h k m =
     (laid-join (name ++ (58 ∷ 32 ∷ []) ++ answer_text x) (32 ∷ hexed sheet) l 0
     (laid-join (name ++ (58 ∷ 32 ∷ [])) (answer_text x) l 0 h k)
     (laid-join (32 ∷ []) (hexed sheet) b q (refl, refl) m))
-
--- what is said of a line that is not read, in 13 bytes at most
-fault-short : (f : Fault) → length (fault_text f) ≤ 13
-unfolding fault_text
-fault-short Nothing = omega arith
-fault-short Form = omega arith
-fault-short Number = omega arith
-fault-short Digit = omega arith
-fault-short Half = omega arith
-fault-short Length = omega arith
-
-pub fault-laid : (l : List ℕ) (at : ℕ) {f g : Fault} {r : ℕ} {a : List ℕ} → f ≡ g → Laid l at (fault_text g) r a → ((r ≡ at + length (fault_text f)) × (r ≤ at + 13)) × (a ≡ sets l at (fault_text f))
-fault-laid l at {g = g} e h = rw e ((h.0, omega (arith, h.0, fault-short g)), h.1)
 
 -- the line that says so
 pub unread-laid : (name l : List ℕ) (f : Fault) {p q : ℕ} {a b : List ℕ}

@@ -1,10 +1,10 @@
 -- Packets and sheets as text, one a line: each definition is total, so that no byte is taken for granted.
 -- Assumes nothing.
-use Rattle.std.specs.Prelude.{ℕ, zero, suc, ◌+◌, ◌-◌, ◌*◌, ◌/◌, ◌%◌, min, Bool, true, ◌&&◌, cond, List, [], ◌∷◌, ◌++◌, ltb, leb, eqb, length, get_or, drop}
-use Rattle.format.specs.declared.Answer.{Answer}
+use Rattle.std.specs.Prelude.{ℕ, zero, suc, ◌+◌, ◌-◌, ◌*◌, ◌/◌, ◌%◌, min, Bool, true, ◌&&◌, cond, List, [], ◌∷◌, ◌++◌, ltb, leb, eqb, length, get_or, drop, Option, Some, None, Result, Ok, Err}
+use Rattle.format.specs.Answer.{Answer}
 use Rattle.printing.specs.Printing.{answer_text}
 use Rattle.vectors.specs.declared.Fault.{Fault}
-use Rattle.vectors.specs.declared.Fault.TheVariants.{Nothing, Form, Number, Digit, Half, Length}
+use Rattle.vectors.specs.declared.Fault.TheVariants.{Form, Number, Digit, Half, Length}
 
 -- a colon and a space
 unfoldable pub is_colon : List ℕ → Bool
@@ -34,6 +34,10 @@ unfoldable pub spelt : List ℕ → ℕ → ℕ
 spelt [] n = n
 spelt (c ∷ s) n = spelt s (with_digit n c)
 
+-- the number that text spells in digits, one at least, where 4 bytes hold it
+unfoldable pub number_of : List ℕ → Option ℕ
+number_of s = cond (is_number s && leb (spelt s 0) 4294967295) (Some (spelt s 0)) None
+
 -- the value of a hex digit, 0 to 9, A to F or a to f; 16 for a byte that is none
 unfoldable pub nibble : ℕ → ℕ
 nibble c = cond (leb 48 c && leb c 57) (c - 48) (cond (leb 65 c && leb c 70) (c - 55) (cond (leb 97 c && leb c 102) (c - 87) 16))
@@ -44,8 +48,8 @@ is_hex [] = true
 is_hex (c ∷ s) = ltb (nibble c) 16 && is_hex s
 
 -- what keeps text from being bytes in hex: a character that is no digit, or else a digit that is left over
-unfoldable pub hex_fault : List ℕ → Fault
-hex_fault s = cond (is_hex s) (cond (eqb (length s % 2) 0) Nothing Half) Digit
+unfoldable pub hex_fault : List ℕ → Result (Unit {0}) Fault
+hex_fault s = cond (is_hex s) (cond (eqb (length s % 2) 0) (Ok tt) (Err Half)) (Err Digit)
 
 -- the k bytes that the first k pairs of s spell
 unfoldable pub pairs : ℕ → List ℕ → List ℕ
@@ -67,7 +71,6 @@ hexed (x ∷ s) = hex_digit (x / 16) ∷ hex_digit (x % 16) ∷ hexed s
 
 -- what is said of a line that is not read: "unread" and a word
 unfoldable pub fault_text : Fault → List ℕ
-fault_text Nothing = []
 fault_text Form = 117 ∷ 110 ∷ 114 ∷ 101 ∷ 97 ∷ 100 ∷ 32 ∷ 102 ∷ 111 ∷ 114 ∷ 109 ∷ []
 fault_text Number = 117 ∷ 110 ∷ 114 ∷ 101 ∷ 97 ∷ 100 ∷ 32 ∷ 110 ∷ 117 ∷ 109 ∷ 98 ∷ 101 ∷ 114 ∷ []
 fault_text Digit = 117 ∷ 110 ∷ 114 ∷ 101 ∷ 97 ∷ 100 ∷ 32 ∷ 100 ∷ 105 ∷ 103 ∷ 105 ∷ 116 ∷ []

@@ -2,15 +2,17 @@
 -- Assumes nothing.
 use mathlib.Core.Path.{◌≡◌, refl, sym, ap, ap₂, ◌∙◌}
 use mathlib.Core.List.{List, [], ◌∷◌, ◌++◌}
-use Prim.Native.Nat.{ℕ, zero, suc, ◌+◌, ◌*◌, ◌/◌, ◌%◌, ◌^◌, ◌≤◌, ◌<◌}
+use Prim.Native.Nat.{ℕ, zero, suc, ◌+◌, ◌-◌, ◌*◌, ◌/◌, ◌%◌, ◌^◌, ◌≤◌, ◌<◌}
 use native.Mathlib.Nat.{zero-add, suc-add, mul_assoc, mul_comm, suc-mul, mul-le-mul, mul-le-mul_right, pow-suc, pow-succ', one-le-pow, pow-le-pow_right, div-one, div-div-eq-div-mul, add-mul-mod_self_right}
 use native.Mathlib.Omega.{arith}
+use borrow.Rule.Slice.PartMut.{put_mid}
 use lib.Dec.{lit<}
 use lib.ListN.{length, get_or, take, drop}
 use lib.Pow.{pow-add, shl_exact}
-use lib.Seq.{sets, take-add, drop-drop}
+use lib.Seq.{sets, take_at, take-add, drop-drop}
+use Rattle.std.specs.Int.{byte_at, bytes_low_first}
 use Rattle.octets.specs.Layout.{pad}
-use Rattle.octets.proofs.Laws.{then}
+use Rattle.octets.proofs.Laws.{part_stored}
 use Rattle.copies.proofs.Copied.{one_byte}
 use Rattle.words.specs.InnerWords.{low, Spells}
 
@@ -36,9 +38,31 @@ low-split (suc j) k n =
     let up : n / 256 ^ suc j ≡ n / 256 / 256 ^ j = ap (λ (m : ℕ). n / m) (pow-succ' 256 j) ∙ sym (div-div-eq-div-mul n 256 (256 ^ j)) in
     rw (suc-add, up) (ap (λ (s : List ℕ). n % 256 ∷ s) (low-split j k (n / 256)))
 
--- so a writer of j + k bytes is made of one of j and one of k
-pub stored : (j k q n : ℕ) (l : List ℕ) {a b : List ℕ} → a ≡ sets l q (low j n) → b ≡ sets a (q + j) (low k (n / 256 ^ j)) → b ≡ sets l q (low (j + k) n)
-stored j k q n l ha hb = then (low j n) (low k (n / 256 ^ j)) l q j ha (length-low j n) hb ∙ ap (sets l q) (sym (low-split j k n))
+-- so the first of more bytes are fewer
+take-low : (j k n : ℕ) → j ≤ k → take j (low k n) ≡ low j n
+take-low j k n h =
+    let rest = low (k - j) (n / 256 ^ j) in
+    let all : k ≡ j + (k - j) = omega arith in
+    ap (λ (m : ℕ). take j (low m n)) all ∙ ap (take j) (low-split j (k - j) n) ∙ take_at (low j n) rest j (length-low j n)
+
+-- byte i of a number, as the library counts them
+byte-above : (i n : ℕ) → byte_at i n ≡ n / 256 ^ i % 256
+byte-above zero n = ap (λ (m : ℕ). m % 256) (sym (div-one n))
+byte-above (suc i) n = refl
+
+-- the library's bytes are `low`
+bytes_low : (i k n : ℕ) → bytes_low_first i k n ≡ low k (n / 256 ^ i)
+unfolding low
+bytes_low i zero n = refl
+bytes_low i (suc k) n =
+    let up : n / 256 ^ suc i ≡ n / 256 ^ i / 256 = ap (λ (m : ℕ). n / m) (pow-suc 256 i) ∙ sym (div-div-eq-div-mul n (256 ^ i) 256) in
+    ap₂ (λ (x : ℕ) (s : List ℕ). x ∷ s) (byte-above i n) (bytes_low (suc i) k n ∙ ap (low k) up)
+
+-- a writer that lays the first of them over a part of a slice stores them
+pub written : (j n : ℕ) (l ys : List ℕ) (at : ℕ) → ys ≡ take j (bytes_low_first 0 8 n) → j ≤ 8 → at + j ≤ length l → put_mid at (at + j - at) l ys ≡ sets l at (low j n)
+written j n l ys at e h room =
+    let same : ys ≡ low j n = e ∙ ap (take j) (bytes_low 0 8 n ∙ ap (low 8) (div-one n)) ∙ take-low j 8 n h in
+    part_stored ys l at j (ap length same ∙ length-low j n) room ∙ ap (sets l at) same
 
 -- a number behind one of j bytes
 low-join : (j k a b : ℕ) → a < 256 ^ j → low (j + k) (a + b * 256 ^ j) ≡ low j a ++ low k b
@@ -91,5 +115,9 @@ byte-spelt x at t h e b =
     (omega arith, rw (one, e) (sym (one_byte t at h)))
 
 -- and two make one of two bytes
-pub two-spelt : (x y at : ℕ) (t : List ℕ) → Spells 1 x (take 1 (drop at t)) → Spells 1 y (take 1 (drop (at + 1) t)) → Spells 2 (x + y * 256) (take 2 (drop at t))
-two-spelt x y at t hx hy = rw (take-add 1 1 (drop at t), drop-drop 1 at t) (joined 1 1 hx hy refl)
+pub two-spelt : (x at : ℕ) (t : List ℕ) → at + 2 ≤ length t → x ≡ get_or t at 0 + get_or t (at + 1) 0 * 256 → get_or t at 0 ≤ 255 → get_or t (at + 1) 0 ≤ 255
+    → Spells 2 x (take 2 (drop at t))
+two-spelt x at t h e low_byte high_byte =
+    let first = byte-spelt (get_or t at 0) at t (omega arith) refl low_byte in
+    let last = byte-spelt (get_or t (at + 1) 0) (at + 1) t (omega arith) refl high_byte in
+    rw (e, take-add 1 1 (drop at t), drop-drop 1 at t) (joined 1 1 first last refl)

@@ -6,10 +6,8 @@ use mathlib.Core.Bool.{Bool, true, false, ◌&&◌, cond, and-false}
 use mathlib.Core.List.{List, []}
 use lib.ListN.{length}
 use Rattle.format.specs.Edition.{as_edition}
-use Rattle.format.specs.declared.Check.TheVariants.{Passed, Failed}
-use Rattle.format.specs.declared.Answer.{Answer}
-use Rattle.format.specs.declared.Answer.TheVariants.{Accepted, Refused}
-use Rattle.format.specs.Answer.{Outcome, outcome}
+use Rattle.format.specs.Check.{Passed, Failed}
+use Rattle.format.specs.Answer.{Answer, Accepted, Refused, Outcome, outcome}
 use Rattle.format.specs.Reader.{sheet, reading_answer, check}
 use Rattle.format.specs.Writer.{spell, is_accepted, is_same, reads_back, writer_answer}
 use Rattle.format.proofs.Acceptance.{same-counts, same_length, Acceptable, answer_of, accepted-only}

@@ -11,11 +11,8 @@ use lib.ListN.{length, take, drop}
 use lib.Seq.{sets, take_at}
 use Rattle.octets.specs.Layout.{over}
 use Rattle.octets.proofs.Layouts.{sets_over}
-use Rattle.format.specs.declared.Check.{Check}
-use Rattle.format.specs.declared.Check.TheVariants.{Passed, Failed}
-use Rattle.format.specs.declared.Answer.{Answer}
-use Rattle.format.specs.declared.Answer.TheVariants.{Accepted, Refused}
-use Rattle.format.specs.Answer.{outcome, left_by}
+use Rattle.format.specs.Check.{Check, Passed, Failed}
+use Rattle.format.specs.Answer.{Answer, Accepted, Refused, outcome, left_by}
 use Rattle.format.specs.Rows.{row, first_row}
 use Rattle.format.specs.Writer.{listed, due, is_complete, spell, reads_back, sheet_rows, writer_rows, writer_answer, sheet_answer, writing_answer, write}
 use Rattle.format.proofs.Rows.{or_else, first-append}

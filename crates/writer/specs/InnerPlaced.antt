@@ -3,7 +3,7 @@
 -- Assumes nothing.
 use Rattle.std.specs.Prelude.{ℕ, ◌≡◌, ◌&&◌, cond, List, leb, length}
 use Rattle.octets.specs.Layout.{over}
-use Rattle.format.specs.declared.Answer.{Answer}
+use Rattle.format.specs.Answer.{Answer}
 use Rattle.format.specs.Writer.{is_accepted, spell, sheet_answer}
 use Rattle.sheet_walk.specs.InnerShape.{Shaped}
 

@@ -7,7 +7,7 @@ use testing::root;
 /// A function's code: its parameters and its body. Comments, contracts and imports are left out.
 type Functions = BTreeMap<String, String>;
 
-/// The items of the crates: functions, and tables, which are constants that are arrays.
+/// The items of the crates: functions, and tables, which are constants and statics that are arrays.
 struct Source {
     functions: Functions,
     tables: BTreeSet<String>,
@@ -34,7 +34,7 @@ fn source() -> Source {
         let text = code(&text);
         let mut lines = text.lines();
         while let Some(line) = lines.next() {
-            if let Some(constant) = named(line, "const ") {
+            if let Some(constant) = named(line, "const ").or_else(|| named(line, "static ")) {
                 if has_array(line.split(':').nth(1).unwrap_or("")) {
                     found.tables.insert(constant);
                 }
@@ -52,7 +52,8 @@ fn is_contract(line: &str) -> bool {
     line.starts_with("    requires ") || line.starts_with("    ensures ")
 }
 
-/// Whether code has an array: a bracket that is neither an index nor the type of a slice, or a string of bytes.
+/// Whether code has an array: a bracket that is neither an index nor the type of a slice, or a string of bytes. The bytes that a number is made of
+/// by `from_be_bytes`, at most eight that are read at once, are none.
 fn has_array(code: &str) -> bool {
     let is_word = |sign: char| sign.is_alphanumeric() || sign == '_';
     code.contains("b\"")
@@ -61,12 +62,21 @@ fn has_array(code: &str) -> bool {
             let word = before.rsplit(|sign| !is_word(sign)).next().unwrap_or("");
             let is_index = before.ends_with([')', ']']) || !matches!(word, "" | "mut" | "return" | "in" | "else");
             let inside = code[at + 1..].split(']').next().unwrap_or("");
-            !is_index && !matches!(inside, "u8" | "u16" | "u32" | "u64" | "usize")
+            let is_number = before.ends_with("::from_be_bytes(");
+            !is_index && !is_number && !matches!(inside, "u8" | "u16" | "u32" | "u64" | "usize")
         })
+}
+
+/// Code without the constants and types that calls of generic functions name, as in `copy::<8>(`.
+fn without_generics(code: &str) -> String {
+    let mut parts = code.split("::<");
+    let first = parts.next().unwrap_or("").to_string();
+    parts.fold(first, |whole, part| whole + part.split_once('>').map_or(part, |(_, behind)| behind))
 }
 
 /// The functions that code calls, by the crate and the name.
 fn calls(source: &Source, of: &str, code: &str) -> Vec<String> {
+    let code = &without_generics(code);
     let home = of.split("::").next().unwrap();
     let is_path = |sign: char| sign.is_alphanumeric() || sign == '_' || sign == ':';
     let called = code.match_indices('(').map(|(at, _)| code[..at].rsplit(|sign| !is_path(sign)).next().unwrap_or(""));
@@ -133,7 +143,7 @@ fn pieces_are_spelt_with_no_array_between() {
         "spelling::put_full_pieces",
         &["spelling::put_next", "spelling::put_row", "copies::copy32"],
     );
-    assert_straight(&source, "spelling::spell", "spelling::put_piece", &["spelling::put_record", "copies::copy_to_32", "copies::copy_all"]);
+    assert_straight(&source, "spelling::spell", "spelling::put_piece", &["spelling::put_record", "copies::copy_all"]);
 }
 
 /// The search finds the arrays that there are.
@@ -141,8 +151,8 @@ fn pieces_are_spelt_with_no_array_between() {
 fn arrays_are_found() {
     let source = source();
     let found = with_arrays(&source, &between(&source, "writer::write", "records::piece_records"));
-    let arrays = ["write_small", "write_middle", "write_large", "longest_in", "write_longest"].map(|name| format!("writer::{name}"));
-    assert!(arrays.iter().all(|name| found.contains(name)) && found.contains(&"readback::is_sheet".to_string()), "{found:?}");
+    let arrays = ["writer::write_in", "readback::is_sheet"];
+    assert!(arrays.iter().all(|name| found.contains(&name.to_string())), "{found:?}");
     assert_eq!(with_arrays(&source, &reached(&source, "sheet_walk::record_at")), ["sheet_walk::body_length"]);
     for array in ["let a = [0u8; 32];", "f(&[1, 2]);", "fn f(a: &mut [u8; 4])", "let a = b\"text\";", "return [x];", "[[0u8; 2]; 3]"] {
         assert!(has_array(array), "{array}");

@@ -9,7 +9,7 @@ use lib.ListN.{drop}
 use Rattle.octets.specs.Layout.{total, field, value}
 use Rattle.text.specs.Text.{text_fault}
 use Rattle.format.specs.declared.Reading.{Reading}
-use Rattle.format.specs.declared.Check.{Check}
+use Rattle.format.specs.Check.{Check}
 use Rattle.format.specs.Packet.{s2}
 use Rattle.format.specs.Rows.{first_row, job_rows}
 use Rattle.octets.proofs.Laws.{one_byte}
@@ -33,16 +33,21 @@ past-10 c = past-9 (goal.at.Else-not-is_line c).Else-b-ne68 ∙ rw (sym c.is_lin
 
 pub returns-then-b-ne68 : goal.returns-then-b-ne68
 unfolding first_row job_rows
-returns-then-b-ne68 c = rw (ne_eqb (s2 c.args.b.now) 73 (λ e. c.if-b-ne68.true (omega arith)))
+returns-then-b-ne68 c =
+    c.row.ensures
+    ∙ rw (ne_eqb (s2 c.args.b.now) 73 (λ e. c.if-b-ne68.true (omega arith)))
 
 pub returns-then-not-is_line : goal.returns-then-not-is_line
 unfolding first_row job_rows text_fault field total
-returns-then-not-is_line c = sym (past-9 (goal.at.returns-then-not-is_line c).Else-b-ne68 ∙ rw (sym c.is_line.ensures ∙ c.if-not-is_line.true))
+returns-then-not-is_line c =
+    c.naming.ensures
+    ∙ sym (past-9 (goal.at.returns-then-not-is_line c).Else-b-ne68 ∙ rw (sym c.is_line.ensures ∙ c.if-not-is_line.true))
 
 pub returns-then-is_new_mode : goal.returns-then-is_new_mode
 unfolding first_row job_rows value total
 returns-then-is_new_mode c =
-    sym
+    c.naming-then-is_new_mode.ensures
+    ∙ sym
     (past-10 (goal.at.returns-then-is_new_mode c).Else-not-is_line
     ∙ rw (sym c.is_older.ensures ∙ c.if-is_older.true, one_byte 45 c.args.b.now, sym c.is_new_mode.ensures ∙ c.if-is_new_mode.true))
 

@@ -1,5 +1,9 @@
 -- `checks::mission_text` meets its contract. M1, M2 and M4 are the parts that are tested.
 -- Assumes nothing.
+use Prim.Native.Nat.{ℕ}
+use mathlib.Core.Path.{ap, ◌∙◌}
+use mathlib.Core.List.{[], ◌∷◌}
+use Rattle.format.specs.Rows.{naming, first_row}
 use Rattle.octets.specs.Layout.{total, field}
 use Rattle.text.specs.Text.{text_fault}
 use Rattle.checks.proofs.Fields.{first-is}
@@ -8,4 +12,6 @@ use Rattle.checks.proofs.mission_text.Goals as goal
 pub returns : goal.returns
 unfolding text_fault field total
 returns c =
-    first-is 1 2 4 c.is_line-m1.ensures c.is_line-m2.ensures c.is_line-m4.ensures c.first_failed.ensures
+    c.naming_row.ensures
+    ∙ ap (λ (n : ℕ). first_row (naming 10 n ∷ []))
+    (first-is 1 2 4 c.is_line-m1.ensures c.is_line-m2.ensures c.is_line-m4.ensures c.first_failed.ensures)

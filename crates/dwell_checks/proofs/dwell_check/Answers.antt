@@ -12,7 +12,7 @@ use Rattle.mask.specs.Mask.{lowest_fault, new_in_mask}
 use Rattle.mask.specs.InnerFields.{Required}
 use Rattle.mask.proofs.Unfaulted.{required-announced}
 use Rattle.format.specs.declared.Reading.{Reading}
-use Rattle.format.specs.declared.Check.{Check}
+use Rattle.format.specs.Check.{Check}
 use Rattle.format.specs.Packet.{s2}
 use Rattle.format.specs.Edition.{is_older}
 use Rattle.format.specs.Dwell.{mask_of, target_count, target_length}
@@ -91,17 +91,21 @@ past-15 c = past-11 (goal.at.Else-new-ne0 c).Else-fault-ne0 ∙ rw (sym (new_is 
 
 pub returns-then-b-lt8 : goal.returns-then-b-lt8
 unfolding first_row dwell_rows
-returns-then-b-lt8 c = rw (lt-ltb (s2 c.args.b.now) 13 (omega arith))
+returns-then-b-lt8 c =
+    c.row.ensures
+    ∙ rw (lt-ltb (s2 c.args.b.now) 13 (omega arith))
 
 pub returns-then-fault-ne0 : goal.returns-then-fault-ne0
 unfolding first_row dwell_rows
 returns-then-fault-ne0 c =
-    sym (past-9 (goal.at.returns-then-fault-ne0 c).Else-b-lt8 ∙ rw (sym (fault-is (goal.at.returns-then-fault-ne0 c).After-lowest_fault-fault), ne_eqb c.lowest_fault-fault.result 0 c.if-fault-ne0.true))
+    c.naming.ensures
+    ∙ sym (past-9 (goal.at.returns-then-fault-ne0 c).Else-b-lt8 ∙ rw (sym (fault-is (goal.at.returns-then-fault-ne0 c).After-lowest_fault-fault), ne_eqb c.lowest_fault-fault.result 0 c.if-fault-ne0.true))
 
 pub returns-then-new-ne0 : goal.returns-then-new-ne0
 unfolding first_row dwell_rows
 returns-then-new-ne0 c =
-    sym (past-11 (goal.at.returns-then-new-ne0 c).Else-fault-ne0 ∙ rw (sym (new_is (goal.at.returns-then-new-ne0 c).After-new_field-new), ne_eqb c.new_field-new.result 0 c.if-new-ne0.true))
+    c.naming-then-new-ne0.ensures
+    ∙ sym (past-11 (goal.at.returns-then-new-ne0 c).Else-fault-ne0 ∙ rw (sym (new_is (goal.at.returns-then-new-ne0 c).After-new_field-new), ne_eqb c.new_field-new.result 0 c.if-new-ne0.true))
 
 pub overflow_add-at : goal.overflow_add-at
 overflow_add-at c = omega (arith, c.length_before_d24-at.ensures.1)
@@ -113,7 +117,8 @@ pub returns-then-b-start : goal.returns-then-b-start
 unfolding first_row dwell_rows
 returns-then-b-start c =
     let b = c.args.b.now in
-    sym (past-15 (goal.at.returns-then-b-start c).Else-new-ne0 ∙ rw (wrong_size b (required (goal.at.returns-then-b-start c).Else-fault-ne0) (λ e. absurd (omega (arith, start_is (goal.at.returns-then-b-start c).After-length_from_d24, c.if-b-start.true)))))
+    c.row-then-b-start.ensures
+    ∙ sym (past-15 (goal.at.returns-then-b-start c).Else-new-ne0 ∙ rw (wrong_size b (required (goal.at.returns-then-b-start c).Else-fault-ne0) (λ e. absurd (omega (arith, start_is (goal.at.returns-then-b-start c).After-length_from_d24, c.if-b-start.true)))))
 
 pub target_count-count-requires : goal.target_count-count-requires
 target_count-count-requires c =
@@ -130,7 +135,8 @@ pub returns-then-b-start-2 : goal.returns-then-b-start-2
 unfolding first_row dwell_rows
 returns-then-b-start-2 c =
     let b = c.args.b.now in
-    sym (past-15 (goal.at.returns-then-b-start-2 c).Else-new-ne0 ∙ rw (wrong_size b (required (goal.at.returns-then-b-start-2 c).Else-fault-ne0) (λ e. c.if-b-start-2.true (e ∙ sym (size_is (goal.at.returns-then-b-start-2 c).After-target_length-each)))))
+    c.row-then-b-start-2.ensures
+    ∙ sym (past-15 (goal.at.returns-then-b-start-2 c).Else-new-ne0 ∙ rw (wrong_size b (required (goal.at.returns-then-b-start-2 c).Else-fault-ne0) (λ e. c.if-b-start-2.true (e ∙ sym (size_is (goal.at.returns-then-b-start-2 c).After-target_length-each)))))
 
 pub plan_by-requires : goal.plan_by-requires
 plan_by-requires c =

@@ -30,13 +30,15 @@ pub returns-then-b-gt1 : goal.returns-then-b-gt1
 unfolding first_row dwell_rows
 returns-then-b-gt1 c = λ r.
     let b = c.args.b.now in
-    rw (sym (d4-is b c.requires.0), lt-ltb 1 (get_or b 12 0) c.if-b-gt1.true)
+    c.naming.ensures
+    ∙ rw (sym (d4-is b c.requires.0), lt-ltb 1 (get_or b 12 0) c.if-b-gt1.true)
 
 pub returns-then-not-is_placed : goal.returns-then-not-is_placed
 unfolding first_row dwell_rows
 returns-then-not-is_placed c = λ r.
     let e = c.requires.1 in
-    rw (d4-right (goal.at.returns-then-not-is_placed c).Else-b-gt1, sym (ap (λ (q : Plan). q.count) e), lt-ltb 0 c.args.p.count c.if-p-gt0.true, sym (ap (λ (q : Plan). q.mask) e), sym c.is_placed.ensures ∙ c.if-not-is_placed.true)
+    c.naming-then-not-is_placed.ensures
+    ∙ rw (d4-right (goal.at.returns-then-not-is_placed c).Else-b-gt1, sym (ap (λ (q : Plan). q.count) e), lt-ltb 0 c.args.p.count c.if-p-gt0.true, sym (ap (λ (q : Plan). q.mask) e), sym c.is_placed.ensures ∙ c.if-not-is_placed.true)
 
 pub targets_check-requires : goal.targets_check-requires
 targets_check-requires c =

@@ -1,10 +1,11 @@
 -- `dwell_checks::each_check` meets its contract. The loop keeps that the rows of the targets that are left decide.
 -- Assumes nothing.
-use mathlib.Core.Path.{◌≡◌, sym, ap, ◌∙◌}
+use mathlib.Core.Path.{◌≡◌, refl, sym, ap, ◌∙◌}
 use Prim.Native.Nat.{ℕ, suc, ◌+◌, ◌-◌, ◌≤◌}
 use native.Mathlib.Omega.{arith}
 use lib.ListN.{length, drop, length-drop}
 use Rattle.format.specs.Rows.{first_row, targets_rows}
+use Rattle.format.proofs.Rows.{handed-on}
 use Rattle.octets.proofs.Parts.{tail-is}
 use Rattle.dwell_checks.proofs.Turns.{room, next_place, fault-found, fault-later, rows_end}
 use Rattle.dwell_checks.proofs.each_check.Goals as goal
@@ -38,11 +39,12 @@ target_check-requires c =
     let at = c.loop-i.at in
     (rw (tail-is at c.args.t.now, length-drop at c.args.t.now) (omega (arith, within (goal.at.target_check-requires c).In-loop-i, c.requires.0.0)), c.requires.0.2, c.requires.1)
 
-pub returns-in-Failed : goal.returns-in-Failed
-returns-in-Failed c =
+pub returns-in_err-target_check : goal.returns-in_err-target_check
+returns-in_err-target_check c =
     let p = c.args.p in
     let l = c.loop-i in
-    fault-found p.mask p.each p.area c.args.t.now l.at _ _ c.requires.0.0 (left (goal.at.returns-in-Failed c).In-loop-i) c.target_check.ensures l.invariant.2 _ _ c.in-Failed.is
+    handed-on c.from_residual.result c.from_residual.ensures.1
+    ∙ fault-found p.mask p.each p.area c.args.t.now l.at _ _ c.requires.0.0 (left (goal.at.returns-in_err-target_check c).In-loop-i) c.in_err-target_check.ensures l.invariant.2 _ _ refl
 
 pub overflow_add-at : goal.overflow_add-at
 overflow_add-at c = omega (arith, within (goal.at.overflow_add-at c).In-loop-i)
@@ -53,7 +55,7 @@ loop-i-preserved c =
     let l = c.loop-i in (
       omega arith,
       omega (arith, next_place l.i p.each, l.invariant.1),
-      fault-later p.mask p.each p.area c.args.t.now l.at _ _ c.requires.0.0 (left (goal.at.loop-i-preserved c).In-loop-i) c.target_check.ensures l.invariant.2 c.in-Passed.is,
+      fault-later p.mask p.each p.area c.args.t.now l.at _ _ c.requires.0.0 (left (goal.at.loop-i-preserved c).In-loop-i) c.in_ok-target_check.ensures l.invariant.2 refl,
     )
 
 pub returns : goal.returns

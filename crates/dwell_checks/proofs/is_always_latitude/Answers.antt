@@ -7,7 +7,8 @@ use Rattle.dwell_checks.proofs.is_always_latitude.Goals as goal
 
 pub returns-then-has : goal.returns-then-has
 returns-then-has c =
-    sym (ap (λ (t : Bool). t || is_always_latitude c.args.area.d10.0 c.args.area.d24.0) (sym c.has.ensures ∙ c.if-has.true))
+    c.if-has.true
+    ∙ sym (ap (λ (t : Bool). t || is_always_latitude c.args.area.d10.0 c.args.area.d24.0) (sym c.has.ensures ∙ c.if-has.true))
 
 pub returns-else-has : goal.returns-else-has
 returns-else-has c =

@@ -6,9 +6,10 @@ use Rattle.position.specs.Position.{is_latitude}
 use Rattle.dwell_checks.proofs.Within.{always-inside}
 use Rattle.dwell_checks.proofs.is_out.Goals as goal
 
-pub returns-then-inside : goal.returns-then-inside
-returns-then-inside c =
-    sym (ap not (always-inside c.args.mask c.args.area c.args.t.now (λ i. (c.type_inv.t i).fits) (sym c.requires.2 ∙ c.if-inside.true)))
+pub returns-else-not-inside : goal.returns-else-not-inside
+returns-else-not-inside c =
+    ap not c.if-not-inside.false
+    ∙ sym (ap not (always-inside c.args.mask c.args.area c.args.t.now (λ i. (c.type_inv.t i).fits) (sym c.requires.2 ∙ c.if-not-inside.false)))
 
-pub returns-else-inside : goal.returns-else-inside
-returns-else-inside c = ap not (c.is_latitude.ensures ∙ ap is_latitude c.latitude_of.ensures)
+pub returns-then-not-inside : goal.returns-then-not-inside
+returns-then-not-inside c = ap not (c.is_latitude.ensures ∙ ap is_latitude c.latitude_of.ensures)

@@ -15,7 +15,7 @@ use mir.Facts.{to_z-of_z}
 use Rattle.mask.specs.Fields.{announced_length}
 use Rattle.mask.specs.InnerFields.{widths}
 use Rattle.mask.proofs.FullWidth.{announced-append}
-use Rattle.format.specs.declared.Check.TheVariants.{Passed, Failed}
+use Rattle.format.specs.Check.{Passed, Failed}
 use Rattle.format.specs.Dwell.{target_fields, D32, D32±}
 use Rattle.format.specs.Rows.{first_row, target_rows}
 use Rattle.dwell_checks.proofs.Numbers.{target-asked, target-read, target-signed}
@@ -56,7 +56,8 @@ i16_if-requires c =
 pub returns-then-i16_if-ltminus1000 : goal.returns-then-i16_if-ltminus1000
 returns-then-i16_if-ltminus1000 c =
     let a = c.args in
-    sym (rows_are a.mask a.area a.t.now (speed (goal.at.returns-then-i16_if-ltminus1000 c).After-i16_if ∙ c.if-i16_if-ltminus1000.true) refl refl refl)
+    c.naming.ensures
+    ∙ sym (rows_are a.mask a.area a.t.now (speed (goal.at.returns-then-i16_if-ltminus1000 c).After-i16_if ∙ c.if-i16_if-ltminus1000.true) refl refl refl)
 
 pub u8_if-requires : goal.u8_if-requires
 u8_if-requires c =
@@ -65,7 +66,8 @@ u8_if-requires c =
 pub returns-then-u8_if-gt100 : goal.returns-then-u8_if-gt100
 returns-then-u8_if-gt100 c =
     let a = c.args in
-    sym (rows_are a.mask a.area a.t.now (speed (goal.at.returns-then-u8_if-gt100 c).After-i16_if ∙ c.if-i16_if-ltminus1000.false) (probability (goal.at.returns-then-u8_if-gt100 c).After-u8_if ∙ lt-ltb 100 c.u8_if.result c.if-u8_if-gt100.true) refl refl)
+    c.naming-then-u8_if-gt100.ensures
+    ∙ sym (rows_are a.mask a.area a.t.now (speed (goal.at.returns-then-u8_if-gt100 c).After-i16_if ∙ c.if-i16_if-ltminus1000.false) (probability (goal.at.returns-then-u8_if-gt100 c).After-u8_if ∙ lt-ltb 100 c.u8_if.result c.if-u8_if-gt100.true) refl refl)
 
 pub u16_if-requires : goal.u16_if-requires
 u16_if-requires c =
@@ -74,7 +76,8 @@ u16_if-requires c =
 pub returns-then-u16_if-gt5000 : goal.returns-then-u16_if-gt5000
 returns-then-u16_if-gt5000 c =
     let a = c.args in
-    sym (rows_are a.mask a.area a.t.now (speed (goal.at.returns-then-u16_if-gt5000 c).After-i16_if ∙ c.if-i16_if-ltminus1000.false) (probability (goal.at.returns-then-u16_if-gt5000 c).After-u8_if ∙ le-ltb 100 c.u8_if.result (omega arith)) (error (goal.at.returns-then-u16_if-gt5000 c).After-u16_if ∙ lt-ltb 5000 c.u16_if.result c.if-u16_if-gt5000.true) refl)
+    c.naming-then-u16_if-gt5000.ensures
+    ∙ sym (rows_are a.mask a.area a.t.now (speed (goal.at.returns-then-u16_if-gt5000 c).After-i16_if ∙ c.if-i16_if-ltminus1000.false) (probability (goal.at.returns-then-u16_if-gt5000 c).After-u8_if ∙ le-ltb 100 c.u8_if.result (omega arith)) (error (goal.at.returns-then-u16_if-gt5000 c).After-u16_if ∙ lt-ltb 5000 c.u16_if.result c.if-u16_if-gt5000.true) refl)
 
 -- once D32.6, D32.11 and D32.15 are right the latitude decides
 last : (c : After-is_out) → let a = c.args in first_row (target_rows a.mask a.area a.t.now) ≡ cond c.is_out.result (Failed 14 35) Passed
@@ -83,7 +86,9 @@ last c =
     rows_are a.mask a.area a.t.now (speed (goal.at.After-is_out c).After-i16_if ∙ c.if-i16_if-ltminus1000.false) (probability (goal.at.After-is_out c).After-u8_if ∙ le-ltb 100 c.u8_if.result (omega arith)) (error (goal.at.After-is_out c).After-u16_if ∙ le-ltb 5000 c.u16_if.result (omega arith)) (sym c.is_out.ensures)
 
 pub returns-then-is_out : goal.returns-then-is_out
-returns-then-is_out c = sym (last (goal.at.returns-then-is_out c).After-is_out ∙ ap (λ (t : Bool). cond t (Failed 14 35) Passed) c.if-is_out.true)
+returns-then-is_out c =
+    c.naming-then-is_out.ensures
+    ∙ sym (last (goal.at.returns-then-is_out c).After-is_out ∙ ap (λ (t : Bool). cond t (Failed 14 35) Passed) c.if-is_out.true)
 
 pub returns : goal.returns
 returns c = sym (last (goal.at.returns c).After-is_out ∙ ap (λ (t : Bool). cond t (Failed 14 35) Passed) c.if-is_out.false)

@@ -6,7 +6,7 @@ use native.Mathlib.Omega.{arith}
 use Rattle.dwell_checks.proofs.width_if.Goals as goal
 
 pub returns-then-has : goal.returns-then-has
-returns-then-has c = (sym (ap (λ (t : Bool). cond t c.args.w 0) (sym c.has.ensures ∙ c.if-has.true)), omega arith)
+returns-then-has c = (c.from.ensures ∙ sym (ap (λ (t : Bool). cond t c.args.w 0) (sym c.has.ensures ∙ c.if-has.true)), omega arith)
 
 pub returns-else-has : goal.returns-else-has
 returns-else-has c = (sym (ap (λ (t : Bool). cond t c.args.w 0) (sym c.has.ensures ∙ c.if-has.false)), omega arith)

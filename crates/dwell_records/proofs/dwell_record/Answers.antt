@@ -14,4 +14,4 @@ pub returns : goal.returns
 returns c =
     let a = c.args in
     dwell-laid a.r a.mask c.mark_of.result a.b.now a.o.now c.requires.0.0 c.mark_of.ensures (omega (arith, c.requires.0.2))
-    c.put_byte.ensures c.copy8.ensures c.dwell_fields.ensures.stored c.withhold.ensures c.put_byte-2.ensures
+    c.put_byte.ensures c.copy.ensures c.dwell_fields.ensures.stored c.withhold.ensures c.put_byte-2.ensures

@@ -4,7 +4,7 @@ use Prim.Native.Nat.{◌-◌, ◌*◌, ◌≤◌}
 use mathlib.Core.Path.{◌≡◌}
 use lib.ListN.{length, drop}
 use lib.Seq.{sets}
-use Rattle.format.specs.declared.Check.TheVariants.{Passed}
+use Rattle.format.specs.Check.{Passed}
 use Rattle.format.specs.Sheet.{target_records, record_bytes}
 use Rattle.format.specs.Lengths.{record_length}
 use Rattle.format.specs.Rows.{first_row, targets_rows}

@@ -4,10 +4,10 @@ use Rattle.demands.proofs.Numbers.{write-numbers-fit}
 use Rattle.gmti.proofs.Outcomes.{outcome_fits, outcome-parts}
 use Rattle.gmti.proofs.gmti_write.Goals as goal
 
-pub put_numbers-requires : goal.put_numbers-requires
-put_numbers-requires c = outcome_fits _ _ _ c.write.ensures (write-numbers-fit _ _)
+pub numbers-requires : goal.numbers-requires
+numbers-requires c = outcome_fits _ _ _ c.write.ensures (write-numbers-fit _ _)
 
 pub returns : goal.returns
 returns c =
-    let parts = outcome-parts _ _ _ c.write.ensures _ c.put_numbers.ensures in
+    let parts = outcome-parts _ _ _ c.write.ensures _ c.numbers.ensures in
     record { answer_after = parts.0; packet_after = parts.1 }

@@ -2,7 +2,8 @@
 -- Assumes nothing.
 use Prim.Native.Nat.{◌≤◌}
 use native.Mathlib.Omega.{arith}
-use mathlib.Core.Path.{sym, ◌∙◌}
+use mathlib.Core.Path.{sym, ap, ◌∙◌}
+use Rattle.format.specs.Check.{check_of}
 use lib.ListN.{length}
 use Rattle.format.specs.Edition.{as_edition}
 use Rattle.format.specs.Reader.{reading_of}
@@ -46,9 +47,9 @@ slice_bounds-new_row-end c = (here (goal.at.slice_bounds-new_row-end c).After-si
 pub new_row-requires : goal.new_row-requires
 new_row-requires c = looked-at _ _ _ (here (goal.at.new_row-requires c).After-size_at-size).checked
 
-pub returns-in-Failed : goal.returns-in-Failed
-returns-in-Failed c =
-    found_here c.loop-at.invariant (after (goal.at.returns-in-Failed c).After-size_at-size) (sym c.new_row.ensures ∙ c.in-Failed.is)
+pub returns-in-Err : goal.returns-in-Err
+returns-in-Err c =
+    found_here c.loop-at.invariant (after (goal.at.returns-in-Err c).After-size_at-size) (sym c.new_row.ensures ∙ ap check_of c.in-Err.is)
 
 pub overflow_add-segment : goal.overflow_add-segment
 overflow_add-segment c =
@@ -63,7 +64,7 @@ loop-at-smaller c = let t = here (goal.at.loop-at-smaller c).After-size_at-size 
 
 pub loop-at-preserved : goal.loop-at-preserved
 loop-at-preserved c =
-    sought-on c.loop-at.invariant (after (goal.at.loop-at-preserved c).After-size_at-size) (here (goal.at.loop-at-preserved c).After-size_at-size).header (sym c.new_row.ensures ∙ c.in_default.is)
+    sought-on c.loop-at.invariant (after (goal.at.loop-at-preserved c).After-size_at-size) (here (goal.at.loop-at-preserved c).After-size_at-size).header (sym c.new_row.ensures ∙ ap check_of c.in_default.is)
 
 pub returns : goal.returns
 returns c = none_found c.loop-at.invariant c.loop-at-test.false

@@ -23,7 +23,9 @@ unfolding value total
 mode-is s = ap is_new_mode (one_byte 45 s.args.b.now)
 
 pub returns-then-segment_type-eq3 : goal.returns-then-segment_type-eq3
-returns-then-segment_type-eq3 c = new-type _ c.args.b.now c.if-segment_type-eq3.true
+returns-then-segment_type-eq3 c =
+    c.row.ensures
+    ∙ new-type _ c.args.b.now c.if-segment_type-eq3.true
 
 pub get_u64-requires : goal.get_u64-requires
 get_u64-requires c = omega (arith, c.requires.0 c.if-segment_type-eq2.true)
@@ -39,7 +41,8 @@ bounds-b-45 c = omega (arith, c.requires.1 c.if-segment_type-eq5.true)
 
 pub returns-then-is_new_mode : goal.returns-then-is_new_mode
 returns-then-is_new_mode c =
-    new-mode _ c.args.b.now c.if-segment_type-eq5.true (mode-is (goal.at.returns-then-is_new_mode c).Start ∙ sym c.is_new_mode.ensures ∙ c.if-is_new_mode.true)
+    c.naming.ensures
+    ∙ new-mode _ c.args.b.now c.if-segment_type-eq5.true (mode-is (goal.at.returns-then-is_new_mode c).Start ∙ sym c.is_new_mode.ensures ∙ c.if-is_new_mode.true)
 
 pub returns : goal.returns
 returns c =

@@ -1,5 +1,6 @@
 -- `gmti_editions::put_line` meets its contract. The name, what is said of the packet, and the end of the line.
 -- Assumes nothing.
+use Rattle.format.specs.Answer.{answer_of}
 use native.Mathlib.Omega.{arith}
 use Prim.Native.Nat.{ℕ}
 use mathlib.Core.Path.{◌≡◌, ◌∙◌}
@@ -21,5 +22,5 @@ returns c =
     let name = c.put_name-p in
     let put = c.put_judged-q in
     let j = c.args.j in
-    let laid = judged-laid c.args.name.now c.args.out.now j.verdict j.newer j.older (label-laid c.args.name.now c.args.out.now name.ensures.value name.ensures.o_after) (put.ensures.value.0, put.ensures.o_after) in
+    let laid = judged-laid c.args.name.now c.args.out.now j.verdict (answer_of j.newer) (answer_of j.older) (label-laid c.args.name.now c.args.out.now name.ensures.value name.ensures.o_after) (put.ensures.value.0, put.ensures.o_after) in
     record { value = (omega (arith, laid.0), omega (arith, kept (goal.at.returns c).After-put_judged-q, put.ensures.value.1, name.ensures.value, c.requires)); out_after = laid.1 }

@@ -6,7 +6,7 @@ use mathlib.Core.Path.{◌≡◌, sym, ap, ◌∙◌}
 use lib.ListN.{length, take, drop, length-take, length-drop}
 use lib.Seq.{length-take-le}
 use Rattle.lines.proofs.Search.{before-le}
-use Rattle.vectors.specs.Vectors.{hex_fault, unhexed}
+use Rattle.vectors.specs.Vectors.{unhexed}
 use Rattle.gmti_editions.proofs.Said.{hex-from, spelt-front, packet-said}
 use Rattle.gmti_editions.proofs.put_packet.Goals as goal
 use Rattle.gmti_editions.proofs.put_packet.Goals.{Start}
@@ -26,7 +26,7 @@ unhex-n-requires c =
     let line = c.args.line.now in
     let h = c.further-hex.result in
     record {
-      s_value = ap hex_fault (hex-from line c.requires.name_value.0 c.further-hex.ensures.0) ∙ c.requires.name_value.1;
+      s_value = rw (hex-from line c.requires.name_value.0 c.further-hex.ensures.0) c.requires.name_value.1;
       s_in_bounds = omega (arith, length-take (length line - h) (drop h line), length-drop h line, c.requires.line_in_bounds);
     }
 

@@ -1,41 +1,20 @@
--- `gmti_longest::asked` meets its contract: the tests in their order, of the input without a line feed at its end.
--- Assumes nothing.
-use native.Mathlib.Omega.{arith}
-use mathlib.Core.Path.{sym, ◌∙◌}
-use borrow.Author.Tests.{ne_eqb}
-use lib.ListN.{take}
-use lib.Seq.{length-take-le}
-use Rattle.gmti_longest.proofs.Inputs.{number-long, asked-no-number, asked-zero, asked_is, asked-over}
+-- The tests in their order, of the input without a line feed at its end.
+use Rattle.std.proofs.Common.{sym, ◌∙◌, arith}
+use Rattle.gmti_longest.proofs.Inputs.{asked-none, asked-missing, asked-some, asked-outside}
 use Rattle.gmti_longest.proofs.asked.Goals as goal
 
-pub slice_bounds-word-end : goal.slice_bounds-word-end
-slice_bounds-word-end c = sym (length-take-le c.line_length-n.result c.args.input.now c.line_length-n.ensures.1)
+pub returns-then-starts_with : goal.returns-then-starts_with
+returns-then-starts_with c =
+    asked-none c.args.input.now c.without_line_feed-word.ensures (sym c.starts_with.ensures.value ∙ c.if-starts_with.true)
 
-pub bounds-word-0 : goal.bounds-word-0
-bounds-word-0 c =
-    let n = c.line_length-n.result in
-    let input = c.args.input.now in
-    omega (arith, number-long (take n input) (sym c.is_number.ensures ∙ c.if-not-is_number.false), length-take-le n input c.line_length-n.ensures.1)
-
-pub returns-then-not-is_number : goal.returns-then-not-is_number
-returns-then-not-is_number c =
-    let input = c.args.input.now in
-    let word = c.line_length-n.ensures.0 in (
-      grind (arith, asked-no-number input word, asked-zero input word),
-      omega arith,
-    )
+pub returns-in_err-k : goal.returns-in_err-k
+returns-in_err-k c =
+    rw c.from_residual.ensures (asked-missing c.args.input.now c.without_line_feed-word.ensures (sym c.number.ensures ∙ c.in_err-k.was))
 
 pub returns-then-k-le-MOST : goal.returns-then-k-le-MOST
 returns-then-k-le-MOST c =
-    let input = c.args.input.now in (
-      c.number-k.ensures
-          ∙ asked_is input c.line_length-n.ensures.0 (sym c.is_number.ensures ∙ c.if-not-is_number.false) (ne_eqb _ 48 (λ e. omega (arith, e))) (omega (arith, c.number-k.ensures)),
-      omega arith,
-    )
+    (asked-some c.args.input.now c.without_line_feed-word.ensures (sym c.starts_with.ensures.value ∙ c.if-starts_with.false) (sym c.number.ensures ∙ c.in_ok-k.was) (omega arith), (omega arith, omega arith))
 
-pub returns-else-k-le-MOST : goal.returns-else-k-le-MOST
-returns-else-k-le-MOST c =
-    let input = c.args.input.now in (
-      asked-over input c.line_length-n.ensures.0 (sym c.is_number.ensures ∙ c.if-not-is_number.false) (ne_eqb _ 48 (λ e. omega (arith, e))) (omega (arith, c.number-k.ensures)),
-      omega arith,
-    )
+pub returns-else-k-ge1 : goal.returns-else-k-ge1
+returns-else-k-ge1 c =
+    asked-outside c.args.input.now c.without_line_feed-word.ensures (sym c.starts_with.ensures.value ∙ c.if-starts_with.false) (sym c.number.ensures ∙ c.in_ok-k.was) c.else-k-ge1.either

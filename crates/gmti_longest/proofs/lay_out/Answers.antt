@@ -13,7 +13,7 @@ returns c = (
       c.copy_all-2.ensures
       c.put_u32-2.ensures
       c.put_u64.ensures
-      c.clear_all.ensures
+      c.clear.ensures
       c.put_u16.ensures
-      c.clear_all-2.ensures,
+      c.clear-2.ensures,
 )

@@ -2,23 +2,15 @@
 -- Assumes nothing.
 use native.Mathlib.Omega.{arith}
 use Prim.Native.Nat.{ℕ}
-use mathlib.Core.Path.{◌≡◌, sym, ◌∙◌}
+use mathlib.Core.Path.{◌≡◌, ◌∙◌}
 use lib.ListN.{length, set, length-set}
 use Rattle.vectors.proofs.Spellings.{label-laid}
-use Rattle.gmti_modes.proofs.Said.{mode-most, mode-answer, unread-answer, said-laid}
+use Rattle.gmti_modes.proofs.Said.{mode-answer, unread-answer, said-laid}
 use Rattle.gmti_modes.proofs.answer.Goals as goal
 use Rattle.gmti_modes.proofs.answer.Goals.{After-put_mode-q}
 
-pub returns-then-not-is_mode : goal.returns-then-not-is_mode
-returns-then-not-is_mode c =
-    let line = c.args.line.now in
-    rw (unread-answer line (sym c.is_mode.ensures ∙ c.if-not-is_mode.true)) c.put_unread.ensures
-
--- the line is a mode's number, and this is the mode
-pub overflow_cast-mode : goal.overflow_cast-mode
-overflow_cast-mode c =
-    let line = c.args.line.now in
-    record { fits = omega (arith, c.number-mode.ensures, mode-most line (sym c.is_mode.ensures ∙ c.if-not-is_mode.false)) }
+pub returns-in_default : goal.returns-in_default
+returns-in_default c = rw (unread-answer c.args.line.now c.in_default.ensures) c.put_unread.ensures
 
 -- the buffer keeps its length
 kept : (c : After-put_mode-q) → length (set c.put_mode-q.new.o c.put_mode-q.result 10) ≡ length c.args.o.now
@@ -28,7 +20,7 @@ pub returns : goal.returns
 returns c =
     let line = c.args.line.now in
     let laid = said-laid line c.args.o.now (label-laid line c.args.o.now c.put_name-p.ensures.value c.put_name-p.ensures.o_after) c.put_mode-q.ensures in
-    let same = mode-answer line (sym c.is_mode.ensures ∙ c.if-not-is_mode.false) c.number-mode.ensures in
+    let same = mode-answer line c.in-Some.ensures.0 c.in-Some.ensures.1 in
     rw same (record {
       value = (laid.0, omega (arith, kept (goal.at.returns c).After-put_mode-q, c.put_mode-q.ensures.room, c.put_name-p.ensures.value, c.requires));
       o_after = laid.1;

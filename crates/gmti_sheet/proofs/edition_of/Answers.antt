@@ -1,16 +1,19 @@
--- `gmti_sheet::edition_of` meets its contract. A word of one letter is known by the letter.
--- Assumes nothing.
+-- A word of one letter is known by the letter.
+use Rattle.std.proofs.Common.{arith}
 use Rattle.gmti_sheet.proofs.Words.{other_length, names-1, names-3, names-none}
 use Rattle.gmti_sheet.proofs.edition_of.Goals as goal
 
-pub returns-then-word-ne1 : goal.returns-then-word-ne1
-returns-then-word-ne1 c = other_length _ c.if-word-ne1.true
+pub returns-in-49 : goal.returns-in-49
+returns-in-49 c = names-1 c.args.word.now (omega arith) (omega arith)
 
-pub returns-then-letter-eq49 : goal.returns-then-letter-eq49
-returns-then-letter-eq49 c = names-1 _ c.if-word-ne1.false c.if-letter-eq49.true
+pub returns-in-51 : goal.returns-in-51
+returns-in-51 c = names-3 c.args.word.now (omega arith) (λ e. omega (arith, e)) (omega arith)
 
-pub returns-then-letter-eq51 : goal.returns-then-letter-eq51
-returns-then-letter-eq51 c = names-3 _ c.if-word-ne1.false c.if-letter-eq49.false c.if-letter-eq51.true
+pub returns-in_default : goal.returns-in_default
+returns-in_default c = other_length c.args.word.now (λ e. omega (arith, e))
 
-pub returns-else-letter-eq51 : goal.returns-else-letter-eq51
-returns-else-letter-eq51 c = names-none _ c.if-word-ne1.false c.if-letter-eq49.false c.if-letter-eq51.false
+pub returns-in_default-2 : goal.returns-in_default-2
+returns-in_default-2 c = names-none c.args.word.now (omega arith) (λ e. omega (arith, e)) (λ e. omega (arith, e))
+
+pub returns-in_default-3 : goal.returns-in_default-3
+returns-in_default-3 c = other_length c.args.word.now (λ e. omega (arith, e))

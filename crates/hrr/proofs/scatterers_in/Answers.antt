@@ -56,9 +56,9 @@ unfolding hrr_fields
 returns c =
     let m = c.args.mask in
     let b = c.args.b.now in
-    let e6 = number_is m b 6 _ (lit≤ tt) (lit< tt) refl (at-6 (goal.at.returns c).After-width_if-2) c.number_if.ensures.0 in
-    let e7 = number_is m b 7 _ (lit≤ tt) (lit< tt) refl (at_7 (goal.at.returns c).After-width_if-2) c.number_if-2.ensures.0 in
-    let e8 = number_is m b 8 _ (lit≤ tt) (lit< tt) refl (at_8 (goal.at.returns c).After-width_if-2) c.number_if-3.ensures.0 in
+    let e6 = number_is m b 6 _ (lit≤ tt) (lit< tt) refl (at-6 (goal.at.returns c).After-width_if-2) c.number_if.ensures in
+    let e7 = number_is m b 7 _ (lit≤ tt) (lit< tt) refl (at_7 (goal.at.returns c).After-width_if-2) c.number_if-2.ensures in
+    let e8 = number_is m b 8 _ (lit≤ tt) (lit< tt) refl (at_8 (goal.at.returns c).After-width_if-2) c.number_if-3.ensures in
     let n = count-is m (full_fields m 2 hrr_widths (drop 5 b)) e6 e7 e8 c.count_of-count.ensures.0 in
     let h25 = h25-is m b c.requires.0.1 c.args.at c.requires.1 in
     let h26 = h26-is m b c.requires.0.1 c.args.at c.requires.1 in (

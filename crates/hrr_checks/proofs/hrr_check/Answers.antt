@@ -21,11 +21,15 @@ mask_is c = c.is_mask.ensures ∙ ap is_hrr_mask c.mask_of-mask.ensures
 
 pub returns-then-b-lt-MASK : goal.returns-then-b-lt-MASK
 unfolding first_row hrr_rows
-returns-then-b-lt-MASK c = rw (lt-ltb (s2 c.args.b.now) 10 (omega arith))
+returns-then-b-lt-MASK c =
+    c.row.ensures
+    ∙ rw (lt-ltb (s2 c.args.b.now) 10 (omega arith))
 
 pub returns-then-not-is_mask : goal.returns-then-not-is_mask
 unfolding first_row hrr_rows
-returns-then-not-is_mask c = sym (past-9 (goal.at.returns-then-not-is_mask c).Else-b-lt-MASK ∙ rw (sym (mask_is (goal.at.returns-then-not-is_mask c).After-is_mask), c.if-not-is_mask.true))
+returns-then-not-is_mask c =
+    c.row-then-not-is_mask.ensures
+    ∙ sym (past-9 (goal.at.returns-then-not-is_mask c).Else-b-lt-MASK ∙ rw (sym (mask_is (goal.at.returns-then-not-is_mask c).After-is_mask), c.if-not-is_mask.true))
 
 pub size_check-requires : goal.size_check-requires
 size_check-requires c =

@@ -26,7 +26,8 @@ start_is c = omega (arith, c.fields_length-start.ensures.0 ∙ ap (λ (k : ℕ).
 
 pub returns-then-b-start : goal.returns-then-b-start
 returns-then-b-start c =
-    wrong_size c.args.b.now (λ e. absurd (omega (arith, start_is (goal.at.returns-then-b-start c).After-fields_length-start, c.if-b-start.true)))
+    c.row.ensures
+    ∙ wrong_size c.args.b.now (λ e. absurd (omega (arith, start_is (goal.at.returns-then-b-start c).After-fields_length-start, c.if-b-start.true)))
 
 -- the announced fields are there
 has-fields : (c : Else-b-start) → 5 + announced_length c.args.mask 2 hrr_widths ≤ length c.args.b.now
@@ -58,7 +59,9 @@ widths-are c =
     (ap (λ (k : ℕ). tests (full_fields k 2 hrr_widths (drop 5 b))) c.requires.0)
 
 pub returns-then-not-are_widths : goal.returns-then-not-are_widths
-returns-then-not-are_widths c = wrong-widths _ (sym (widths-are (goal.at.returns-then-not-are_widths c).After-are_widths) ∙ c.if-not-are_widths.true)
+returns-then-not-are_widths c =
+    c.row-then-not-are_widths.ensures
+    ∙ wrong-widths _ (sym (widths-are (goal.at.returns-then-not-are_widths c).After-are_widths) ∙ c.if-not-are_widths.true)
 
 pub scatterers_in-s-requires : goal.scatterers_in-s-requires
 scatterers_in-s-requires c =
@@ -94,7 +97,9 @@ size_is : (c : After-each_of) → let b = c.args.b.now in
 size_is c = ap₂ ◌+◌ (start_is (goal.at.After-each_of c).After-fields_length-start) (product_is c)
 
 pub returns-then-b-start-2 : goal.returns-then-b-start-2
-returns-then-b-start-2 c = wrong_size _ (λ e. c.if-b-start-2.true (e ∙ sym (size_is (goal.at.returns-then-b-start-2 c).After-each_of)))
+returns-then-b-start-2 c =
+    c.row-then-b-start-2.ensures
+    ∙ wrong_size _ (λ e. c.if-b-start-2.true (e ∙ sym (size_is (goal.at.returns-then-b-start-2 c).After-each_of)))
 
 pub returns : goal.returns
 returns c =

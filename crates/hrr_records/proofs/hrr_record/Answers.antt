@@ -1,4 +1,4 @@
--- `hrr_records::hrr_record` meets its contract. The kind, the mask in two copies, and the fields at full widths.
+-- `hrr_records::hrr_record` meets its contract. The kind, the mask, and the fields at full widths.
 -- Assumes nothing.
 use native.Mathlib.Omega.{arith}
 use borrow.Author.Rules.{rules}
@@ -13,4 +13,4 @@ hrr_fields-requires c = search rules
 pub returns : goal.returns
 returns c =
     let a = c.args in
-    hrr-laid a.mask a.b.now a.o.now c.requires.0.0 (omega (arith, c.requires.0.2)) c.put_byte.ensures c.copy4.ensures c.copy1.ensures c.hrr_fields.ensures.stored
+    hrr-laid a.mask a.b.now a.o.now c.requires.0.0 (omega (arith, c.requires.0.2)) c.put_byte.ensures c.copy.ensures c.hrr_fields.ensures.stored

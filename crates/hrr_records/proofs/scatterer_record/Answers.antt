@@ -38,4 +38,4 @@ returns c =
     let t = c.args.t.now in
     let word = joined 4 4 (joined 2 2 c.widen.ensures c.widen-2.ensures c.join-first.ensures) (joined 2 2 c.widen-3.ensures c.widen-4.ensures c.join-last.ensures) c.join.ensures in
     let bytes = word.1 ∙ four-wide (n / 1000) (n / 100 % 10) (n / 10 % 10) (n % 10) t in
-    scatterer-laid (digits n) t c.args.o.now refl (all-narrow c.requires.0) c.put_byte.ensures (c.put8.ensures ∙ ap (sets _ 1) bytes)
+    scatterer-laid (digits n) t c.args.o.now refl (all-narrow c.requires.0) c.put_byte.ensures (c.put.ensures ∙ ap (sets _ 1) bytes)

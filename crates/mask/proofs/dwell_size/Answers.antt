@@ -18,8 +18,8 @@ target-le : (c : After-target_length) → c.target_length.result ≤ 255
 unfolding total
 target-le c = omega (arith, announced-le c.args.mask 32 target_widths)
 
-product_le : (c : After-target_length) → c.args.targets * c.target_length.result ≤ 65535 * 255
-product_le c = let t : c.args.targets ≤ 65535 = omega arith in mul-le-mul t (target-le c)
+product_le : (c : After-target_length) → c.from.result * c.target_length.result ≤ 65535 * 255
+product_le c = let t : c.from.result ≤ 65535 = omega arith in mul-le-mul t (target-le c)
 
 pub overflow_add-result : goal.overflow_add-result
 overflow_add-result c = omega (arith, dwell-le (goal.at.overflow_add-result c).After-dwell_length)

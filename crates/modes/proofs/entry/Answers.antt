@@ -5,4 +5,4 @@ use Rattle.modes.proofs.Lookups.{entry-is}
 use Rattle.modes.proofs.entry.Goals as goal
 
 pub returns : goal.returns
-returns c table = entry-is table c.args.entries.now c.args.mode (search rules)
+returns c table = rw c.from.ensures (entry-is table c.args.entries.now c.args.mode (search rules))

@@ -1,4 +1,4 @@
--- `octets::get_u16` meets its contract. The bytes are bounded by `wide`, so every sum is closed by search; the value is `be 2` written out.
+-- `octets::get_u16` meets its contract. The library's sum of the bytes is `be 2` written out.
 -- Assumes nothing.
 use native.Mathlib.Omega.{arith}
 use native.Mathlib.Nat.{add-zero}

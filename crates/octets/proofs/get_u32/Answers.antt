@@ -1,7 +1,11 @@
--- `octets::get_u32` meets its contract. Two halves: one law, `joined`, which search applies to what the two calls ensure.
+-- `octets::get_u32` meets its contract. The library's sum of the bytes is `be 4` written out.
 -- Assumes nothing.
-use Rattle.octets.proofs.Laws.{joined}
+use native.Mathlib.Omega.{arith}
+use native.Mathlib.Nat.{add-zero}
+use lib.Seq.{get_or-drop}
+use Rattle.octets.specs.Octets.{be}
 use Rattle.octets.proofs.get_u32.Goals as goal
 
 pub returns : goal.returns
-returns c = search (joined 2 2)
+unfolding be
+returns c = simp (get_or-drop, add-zero) (omega arith)

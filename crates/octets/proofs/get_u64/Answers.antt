@@ -1,7 +1,11 @@
--- `octets::get_u64` meets its contract. Four parts: one law, `joined-4`, which search applies to what the calls ensure.
+-- `octets::get_u64` meets its contract. The library's sum of the bytes is `be 8` written out.
 -- Assumes nothing.
-use Rattle.octets.proofs.Laws.{joined-4}
+use native.Mathlib.Omega.{arith}
+use native.Mathlib.Nat.{add-zero}
+use lib.Seq.{get_or-drop}
+use Rattle.octets.specs.Octets.{be}
 use Rattle.octets.proofs.get_u64.Goals as goal
 
 pub returns : goal.returns
-returns c = search joined-4
+unfolding be
+returns c = simp (get_or-drop, add-zero) (omega arith)

@@ -1,7 +1,8 @@
--- `octets::put_u32` meets its contract. Two halves: one law, `stored`, which search applies to what the two calls ensure.
+-- `octets::put_u32` meets its contract. The library's bytes are `bytes 4`, and the part written over is a run of stores.
 -- Assumes nothing.
-use Rattle.octets.proofs.Laws.{stored}
+use borrow.Author.Rules.{rules}
+use Rattle.octets.proofs.Machine.{written}
 use Rattle.octets.proofs.put_u32.Goals as goal
 
 pub returns : goal.returns
-returns c = search (stored 2 2)
+returns c = search (rules, written 4)

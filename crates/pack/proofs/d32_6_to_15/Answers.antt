@@ -2,31 +2,29 @@
 -- each is stored in turn. Assumes nothing.
 use mathlib.Core.Path.{refl}
 use Prim.Native.Nat.{ℕ}
+use native.Mathlib.Omega.{arith}
 use Rattle.octets.specs.Layout.{total}
-use Rattle.mask.specs.Fields.{announced, announced_length}
-use Rattle.pack.proofs.Lines.{onward, copied-needs, copied, passed}
+use Rattle.mask.specs.Fields.{announced}
+use Rattle.pack.proofs.Lines.{onward, copied-needs, copied, ending, passing}
 use Rattle.pack.proofs.d32_6_to_15.Goals as goal
+use Rattle.pack.proofs.d32_6_to_15.Goals.{then-has_all, else-has_all+then-not-has_none, else-has_all+else-not-has_none}
 
 -- the word with the bits of D32.6 to D32.15
 abbrev set : ℕ
 set = 0x0000_0000_1FF8_0000
 
-pub copy16-requires : goal.copy16-requires
+pub block-requires : goal.block-requires
 unfolding announced total
-copy16-requires c =
-    copied-needs set c.requires c.has_all.ensures c.if-has_all.true refl
+block-requires c = omega (arith, copied-needs set c.requires c.has_all.ensures c.if-has_all.true refl)
 
-pub returns-then-has_all : goal.returns-then-has_all
+pub returns : goal.returns
 unfolding announced total
-returns-then-has_all c =
-    copied set c.has_all.ensures c.if-has_all.true refl c.copy16.ensures
-
-pub returns-else-has_none : goal.returns-else-has_none
-unfolding total
-returns-else-has_none c =
-    onward (onward (onward (onward (λ _. c.field2-d32_7.ensures) c.field2-d32_8.ensures) c.field2-d32_9.ensures) c.field1-d32_10.ensures) c.d32_10_to_15.ensures
-    c.requires.held
-
-pub returns-then-has_none : goal.returns-then-has_none
-unfolding announced announced_length total
-returns-then-has_none c = passed set c.has_none.ensures c.if-has_none.true refl
+returns c =
+    let j = c.if-has_all.u in
+    elim c.if-has_all.branch [
+      | then-has_all w ↦ ending j w.u-is refl (copied set c.has_all.ensures w.if-has_all.true refl w.block.ensures)
+      | else-has_all+then-not-has_none w ↦
+          ending j w.u-is refl
+          (onward (onward (onward (onward (λ _. w.field.ensures) w.field-then-not-has_none.ensures) w.field-then-not-has_none-2.ensures) w.field-then-not-has_none-3.ensures) w.d32_10_to_15.ensures c.requires.held)
+      | else-has_all+else-not-has_none w ↦ passing j set w.u-is refl w.has_none.ensures w.if-not-has_none.false refl
+    ]

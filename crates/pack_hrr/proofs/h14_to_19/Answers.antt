@@ -1,11 +1,8 @@
--- `pack_hrr::h14_to_19` meets its contract. Each field is stored where the one before it ends.
--- Assumes nothing.
+-- `pack_hrr::h14_to_19` meets its contract. Each part is packed where the one before it ends. Assumes nothing.
 use Rattle.octets.specs.Layout.{total}
 use Rattle.pack.proofs.Lines.{onward}
 use Rattle.pack_hrr.proofs.h14_to_19.Goals as goal
 
 pub returns : goal.returns
 unfolding total
-returns c =
-    onward (onward (onward (onward (onward (λ _. c.field4-h15.ensures) c.field4-h16.ensures) c.field1-h17.ensures) c.field1-h18.ensures) c.field1-h19.ensures) c.field2.ensures
-    c.requires.held
+returns c = onward (onward (onward (onward (onward (λ _. c.field.ensures) c.field-2.ensures) c.field-3.ensures) c.field-4.ensures) c.field-5.ensures) c.field-6.ensures c.requires.held

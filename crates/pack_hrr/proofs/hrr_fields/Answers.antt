@@ -1,5 +1,7 @@
--- `pack_hrr::hrr_fields` meets its contract. Each range is stored where the one before it ends.
+-- `pack_hrr::hrr_fields` meets its contract. Each part is packed where the one before it ends, in the lent memory that the cursor holds.
 -- Assumes nothing.
+use mathlib.Core.Path.{sym}
+use borrow.Author.Rules.{rules}
 use Rattle.octets.specs.Layout.{total}
 use Rattle.pack.proofs.Lines.{onward}
 use Rattle.pack_hrr.proofs.hrr_fields.Goals as goal
@@ -7,5 +9,7 @@ use Rattle.pack_hrr.proofs.hrr_fields.Goals as goal
 pub returns : goal.returns
 unfolding total
 returns c =
-    onward (onward (onward (onward (λ _. c.h2_to_7-h8.ensures) c.h8_to_13-h14.ensures) c.h14_to_19-h20.ensures) c.h20_to_25-h26.ensures) c.h26_to_31.ensures
-    c.requires.held
+    let moved = onward (onward (onward (onward (λ _. c.h2_to_7.ensures) c.h8_to_13.ensures) c.h14_to_19.ensures) c.h20_to_25.ensures) c.h26_to_31.ensures c.requires.held in
+    let lent = sym moved.lent in
+    let stored = moved.stored in
+    record { next = moved.behind; stored = search rules }

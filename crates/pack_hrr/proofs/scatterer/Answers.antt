@@ -37,9 +37,9 @@ pub join-requires : goal.join-requires
 join-requires c =
     (omega (arith, c.requires), (first_two (goal.at.join-requires c).After-join-first).0, half (c.args.n / 10 % 10 + c.args.n % 10) (omega (arith, c.requires)) (last-two (goal.at.join-requires c).After-join-last))
 
-pub put_below_8-requires : goal.put_below_8-requires
+pub put-requires : goal.put-requires
 unfolding total
-put_below_8-requires c =
+put-requires c =
     (omega (arith, c.requires), omega (arith, c.requires))
 
 pub returns : goal.returns
@@ -47,4 +47,4 @@ returns c =
     let a = c.args in
     let n = a.n in
     let word = joined (n / 1000 + n / 100 % 10) (n / 10 % 10 + n % 10) (first_two (goal.at.returns c).After-join-first) (last-two (goal.at.returns c).After-join-last) c.join.ensures in
-    c.put_below_8.ensures ∙ ap (sets a.o.now 0) (word.1 ∙ four-last (n / 1000) (n / 100 % 10) (n / 10 % 10) (n % 10) a.x.now)
+    c.put.ensures ∙ ap (sets a.o.now 0) (word.1 ∙ four-last (n / 1000) (n / 100 % 10) (n / 10 % 10) (n % 10) a.x.now)

@@ -3,6 +3,7 @@
 use native.Mathlib.Omega.{arith}
 use mathlib.Core.Path.{◌∙◌}
 use native.Mathlib.Nat.{zero-add}
+use Rattle.format.specs.Answer.{answer_of}
 use Rattle.printing.specs.Printing.{answer_text, answer_line}
 use Rattle.printing.proofs.Lines.{laid-byte}
 use Rattle.printing.proofs.answer_line.Goals as goal
@@ -11,5 +12,5 @@ pub returns : goal.returns
 unfolding answer_line
 returns c =
     let e = c.put_answer-p.ensures in
-    let h = laid-byte (answer_text c.args.a) c.args.o.now 0 10 (e.value.0, e.o_after) in
+    let h = laid-byte (answer_text (answer_of c.args.a)) c.args.o.now 0 10 (e.value.0, e.o_after) in
     record { value = (h.0 ∙ zero-add _, omega (arith, e.value.1)); o_after = h.1 }

@@ -40,13 +40,13 @@ plan_of-p-requires c = head (goal.at.plan_of-p-requires c).After-get_u64-mask
 
 pub dwell_record-requires : goal.dwell_record-requires
 dwell_record-requires c =
-    (head (goal.at.dwell_record-requires c).After-get_u64-mask, omega (arith, c.requires.2))
+    (head (goal.at.dwell_record-requires c).After-get_u64-mask, omega (arith, c.told-window))
 
 pub returns-then-not-is_front : goal.returns-then-not-is_front
 unfolding dwell_records
 returns-then-not-is_front c =
     let a = c.args in
-    record-differs (dwell_record a.r a.b.now) _ a.x.now a.window.now _ (record_length 3) c.dwell_record.ensures (dwell-length a.r a.b.now) (omega (arith, c.requires.2)) (omega (arith, c.requires.1)) c.is_front.ensures c.if-not-is_front.true
+    record-differs (dwell_record a.r a.b.now) _ a.x.now a.window.now _ (record_length 3) c.dwell_record.ensures (dwell-length a.r a.b.now) (omega (arith, c.told-window)) (omega (arith, c.requires.1)) c.is_front.ensures c.if-not-is_front.true
 
 pub slice_bounds-same_targets-count : goal.slice_bounds-same_targets-count
 slice_bounds-same_targets-count c = within (goal.at.slice_bounds-same_targets-count c).After-plan_of-p
@@ -62,7 +62,6 @@ same_targets-requires c =
       targets-stand b k p.result p.ensures.0 p.ensures.1,
       sym (left-length (record_length 3) _ c.args.x.now (omega (arith, c.requires.1, ap (λ (q : Plan). q.count) p.ensures.0))),
       targets-pass b k p.result p.ensures.0,
-      omega (arith, c.requires.2, c.dwell_record.auto),
     )
 
 pub returns : goal.returns
@@ -75,5 +74,5 @@ returns c =
     let rest =
     ap (λ (t : List ℕ). target_records p.result.mask p.result.area p.result.count t) (targets_are b p.result p.ensures.0)
     ∙ ap (λ (q : Plan). target_records q.mask q.area q.count (targets_of b)) p.ensures.0 in
-    record_same (dwell_record a.r b) _ a.x.now a.window.now _ (record_length 3) c.dwell_record.ensures (dwell-length a.r b) (omega (arith, c.requires.2)) (omega (arith, c.requires.1)) c.is_front.ensures y c.if-not-is_front.false (tail-is (record_length 3) a.x.now)
+    record_same (dwell_record a.r b) _ a.x.now a.window.now _ (record_length 3) c.dwell_record.ensures (dwell-length a.r b) (omega (arith, c.told-window)) (omega (arith, c.requires.1)) c.is_front.ensures y c.if-not-is_front.false (tail-is (record_length 3) a.x.now)
     (c.same_targets.ensures ∙ ap (λ (rs : List Record). is_same (record_bytes rs) y) rest)

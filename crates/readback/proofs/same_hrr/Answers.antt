@@ -43,13 +43,13 @@ long : (c : After-scatterers_in-s) → record_length 11 + c.scatterers_in-s.resu
 long c = omega (arith, c.requires.1, ap (λ (x : Scatterers). x.count) c.scatterers_in-s.ensures.value.0)
 
 pub hrr_record-requires : goal.hrr_record-requires
-hrr_record-requires c = (head (goal.at.hrr_record-requires c).After-scatterers_in-s, omega (arith, c.requires.2))
+hrr_record-requires c = (head (goal.at.hrr_record-requires c).After-scatterers_in-s, omega (arith, c.told-window))
 
 pub returns-then-not-is_front : goal.returns-then-not-is_front
 unfolding hrr_records
 returns-then-not-is_front c =
     let b = c.args.b.now in
-    record-differs (hrr_record b) _ c.args.x.now c.args.window.now _ (record_length 11) c.hrr_record.ensures (hrr-length b) (omega (arith, c.requires.2)) (omega (arith, c.requires.1)) c.is_front.ensures c.if-not-is_front.true
+    record-differs (hrr_record b) _ c.args.x.now c.args.window.now _ (record_length 11) c.hrr_record.ensures (hrr-length b) (omega (arith, c.told-window)) (omega (arith, c.requires.1)) c.is_front.ensures c.if-not-is_front.true
 
 pub slice_bounds-same_scatterers-count : goal.slice_bounds-same_scatterers-count
 slice_bounds-same_scatterers-count c = omega (arith, fill (goal.at.slice_bounds-same_scatterers-count c).After-scatterers_in-s)
@@ -66,7 +66,6 @@ same_scatterers-requires c =
       each,
       rw (tail-is (5 + c.fields_length-start.result) b, length-drop) (omega (arith, fill (goal.at.same_scatterers-requires c).After-scatterers_in-s, takes)),
       sym (left-length (record_length 11) _ c.args.x.now (sym (long (goal.at.same_scatterers-requires c).After-scatterers_in-s))),
-      omega (arith, c.requires.2, c.hrr_record.auto.o),
     )
 
 pub returns : goal.returns
@@ -80,5 +79,5 @@ returns c =
     let rest =
     ap (λ (t : List ℕ). scatterer_records (widths_of some) some.count t) place
     ∙ ap (λ (q : Scatterers). scatterer_records (widths_of q) q.count (drop (5 + announced_length (hrr_mask b) 2 hrr_widths) b)) c.scatterers_in-s.ensures.value.0 in
-    record_same (hrr_record b) _ x c.args.window.now _ (record_length 11) c.hrr_record.ensures (hrr-length b) (omega (arith, c.requires.2)) (omega (arith, c.requires.1)) c.is_front.ensures y c.if-not-is_front.false (tail-is (record_length 11) x)
+    record_same (hrr_record b) _ x c.args.window.now _ (record_length 11) c.hrr_record.ensures (hrr-length b) (omega (arith, c.told-window)) (omega (arith, c.requires.1)) c.is_front.ensures y c.if-not-is_front.false (tail-is (record_length 11) x)
     (c.same_scatterers.ensures ∙ ap (λ (rs : List Record). is_same (record_bytes rs) y) rest)

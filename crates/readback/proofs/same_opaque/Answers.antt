@@ -9,14 +9,14 @@ use Rattle.readback.proofs.Types.{behind-same}
 use Rattle.readback.proofs.same_opaque.Goals as goal
 
 pub opaque_record-requires : goal.opaque_record-requires
-opaque_record-requires c = (c.requires.0, omega (arith, c.requires.2))
+opaque_record-requires c = (c.requires.0, omega (arith, c.told-window))
 
 pub same_with_pieces-requires : goal.same_with_pieces-requires
 same_with_pieces-requires c =
     let kept = c.opaque_record.auto in
-    (omega (arith, kept, c.requires.2), c.requires.1, omega (arith, kept, c.requires.2))
+    (omega (arith, kept, c.told-window), c.requires.1)
 
 pub returns : goal.returns
 unfolding opaque_records body_length
 returns c =
-    behind-same (record_of 7 _) (pieces_of c.args.b.now) (record_bytes (opaque_records c.args.segment_type c.args.b.now)) c.args.x.now c.args.window.now _ (record_length 7) c.opaque_record.ensures (length-one 7 _) (omega (arith, c.requires.2)) c.same_with_pieces.ensures refl
+    behind-same (record_of 7 _) (pieces_of c.args.b.now) (record_bytes (opaque_records c.args.segment_type c.args.b.now)) c.args.x.now c.args.window.now _ (record_length 7) c.opaque_record.ensures (length-one 7 _) (omega (arith, c.told-window)) c.same_with_pieces.ensures refl

@@ -8,11 +8,11 @@ use Rattle.readback.proofs.same_pieces.Goals as goal
 
 pub same_full_pieces-requires : goal.same_full_pieces-requires
 same_full_pieces-requires c =
-    (search rules, full-within c.args.b.now c.args.x.now c.requires.0)
+    (search rules, full-within c.args.b.now c.args.x.now c.requires)
 
 pub returns-then-not-same_full_pieces : goal.returns-then-not-same_full_pieces
 returns-then-not-same_full_pieces c =
-    full-differ c.args.b.now c.args.x.now c.requires.0 c.same_full_pieces.ensures c.if-not-same_full_pieces.true
+    full-differ c.args.b.now c.args.x.now c.requires c.same_full_pieces.ensures c.if-not-same_full_pieces.true
 
 pub piece_records-requires : goal.piece_records-requires
 unfolding piece_count
@@ -20,17 +20,17 @@ piece_records-requires c = search rules
 
 pub slice_bounds-is_front-count : goal.slice_bounds-is_front-count
 slice_bounds-is_front-count c =
-    omega (arith, full-within c.args.b.now c.args.x.now c.requires.0)
+    omega (arith, full-within c.args.b.now c.args.x.now c.requires)
 
 pub slice_bounds-is_front-start : goal.slice_bounds-is_front-start
 slice_bounds-is_front-start c =
-    omega (arith, full-within c.args.b.now c.args.x.now c.requires.0)
+    omega (arith, full-within c.args.b.now c.args.x.now c.requires)
 
 pub is_front-requires : goal.is_front-requires
 is_front-requires c =
-    omega (arith, left-short c.args.b.now c.args.x.now c.requires.0, c.piece_records.auto, c.requires.1)
+    omega (arith, left-short c.args.b.now c.args.x.now c.requires, c.piece_records.auto, c.told-window)
 
 pub returns : goal.returns
 returns c =
-    full-same c.args.b.now c.args.x.now c.requires.0 c.same_full_pieces.ensures c.args.window.now _
-    c.if-not-same_full_pieces.false c.piece_records.ensures (omega (arith, c.requires.1)) c.is_front.ensures
+    full-same c.args.b.now c.args.x.now c.requires c.same_full_pieces.ensures c.args.window.now _
+    c.if-not-same_full_pieces.false c.piece_records.ensures (omega (arith, c.told-window)) c.is_front.ensures

@@ -60,7 +60,7 @@ pub same_segment-requires : goal.same_segment-requires
 same_segment-requires c =
     let l = c.loop-at in
     let x = c.args.x.now in
-    ((here (goal.at.same_segment-requires c).After-size_at-size).checked, sym (length_part x l.from _ (within (goal.at.same_segment-requires c).After-records_length) ∙ c.records_length.ensures), omega (arith, l.invariant.same, c.requires.2))
+    ((here (goal.at.same_segment-requires c).After-size_at-size).checked, sym (length_part x l.from _ (within (goal.at.same_segment-requires c).After-records_length) ∙ c.records_length.ensures))
 
 pub returns-then-not-same_segment : goal.returns-then-not-same_segment
 returns-then-not-same_segment c =
@@ -90,9 +90,6 @@ loop-at-preserved c =
           ∙ sym (ap (λ (y : List ℕ). is_same y (drop l.from x)) t.bytes-are)
           ∙ l.invariant.rest;
     }
-
-pub shape_of-window : goal.shape_of-window
-shape_of-window c = c.loop-at.invariant.same
 
 pub returns : goal.returns
 unfolding is_same

@@ -16,7 +16,7 @@ use Rattle.format.proofs.Lengths.{length-scatterers}
 use Rattle.readback.specs.InnerWindow.{window_length}
 use Rattle.readback.proofs.Batches.{batch-within, batch-differs, batch-same, batch-end, scatterers-joined}
 use Rattle.readback.proofs.same_scatterers.Goals as goal
-use Rattle.readback.proofs.same_scatterers.Goals.{After-least-k, Start}
+use Rattle.readback.proofs.same_scatterers.Goals.{After-min-k, Start}
 
 -- the records of n scatterers, as the laws of batches have them
 abbrev records : Scatterers → ℕ → List ℕ → List Record
@@ -29,14 +29,14 @@ long : (p : Scatterers) (k : ℕ) (t : List ℕ) → length (record_bytes (recor
 long p = length-scatterers (widths_of p)
 
 -- a batch: its targets are some of those left, and the window has room for them
-few : (c : After-least-k) → let d = c.loop-done.done in let k = c.least-k.result in (d + k ≤ c.args.s.count) × (0 < k) × (k * record_length 12 ≤ window_length)
-few c = let t = c.loop-done-test.true in (omega (arith, c.least-k.ensures, t), omega (arith, c.least-k.ensures, t), omega (arith, c.least-k.ensures))
+few : (c : After-min-k) → let d = c.loop-done.done in let k = c.min-k.result in (d + k ≤ c.args.s.count) × (0 < k) × (k * record_length 12 ≤ window_length)
+few c = let t = c.loop-done-test.true in (omega (arith, c.min-k.ensures, t), omega (arith, c.min-k.ensures, t), omega (arith, c.min-k.ensures))
 
 -- they lie within, and so do their records
-within : (c : After-least-k) → let d = c.loop-done.done in let k = c.least-k.result in let a = c.args in
+within : (c : After-min-k) → let d = c.loop-done.done in let k = c.min-k.result in let a = c.args in
     (d * a.each + k * a.each ≤ length a.t.now) × (d * record_length 12 + k * record_length 12 ≤ length a.x.now)
 within c =
-    let s = (goal.at.After-least-k c).Start in
+    let s = (goal.at.After-min-k c).Start in
     let p = s.args.s in
     (batch-within (records p) s.args.each (record_length 12) (joined s) (long p) s.args.t.now p.count _ _ (few c).0 s.args.each s.requires.2, omega (arith, (few c).0, s.requires.3))
 
@@ -52,58 +52,58 @@ loop-done-init c =
     )
 
 pub overflow_mul-at : goal.overflow_mul-at
-overflow_mul-at c = omega (arith, (within (goal.at.overflow_mul-at c).After-least-k).0)
+overflow_mul-at c = omega (arith, (within (goal.at.overflow_mul-at c).After-min-k).0)
 
 pub overflow_mul-q : goal.overflow_mul-q
-overflow_mul-q c = omega (arith, (within (goal.at.overflow_mul-q c).After-least-k).1)
+overflow_mul-q c = omega (arith, (within (goal.at.overflow_mul-q c).After-min-k).1)
 
 pub overflow_mul-to : goal.overflow_mul-to
-overflow_mul-to c = omega (arith, (within (goal.at.overflow_mul-to c).After-least-k).1)
+overflow_mul-to c = omega (arith, (within (goal.at.overflow_mul-to c).After-min-k).1)
 
 pub overflow_add-to : goal.overflow_add-to
-overflow_add-to c = omega (arith, (within (goal.at.overflow_add-to c).After-least-k).1)
+overflow_add-to c = omega (arith, (within (goal.at.overflow_add-to c).After-min-k).1)
 
 pub slice_bounds-scatterer_records-count : goal.slice_bounds-scatterer_records-count
-slice_bounds-scatterer_records-count c = omega (arith, (within (goal.at.slice_bounds-scatterer_records-count c).After-least-k).0)
+slice_bounds-scatterer_records-count c = omega (arith, (within (goal.at.slice_bounds-scatterer_records-count c).After-min-k).0)
 
 pub slice_bounds-scatterer_records-start : goal.slice_bounds-scatterer_records-start
-slice_bounds-scatterer_records-start c = omega (arith, (within (goal.at.slice_bounds-scatterer_records-start c).After-least-k).0)
+slice_bounds-scatterer_records-start c = omega (arith, (within (goal.at.slice_bounds-scatterer_records-start c).After-min-k).0)
 
 pub slice_bounds-scatterer_records-end : goal.slice_bounds-scatterer_records-end
-slice_bounds-scatterer_records-end c = omega (arith, (within (goal.at.slice_bounds-scatterer_records-end c).After-least-k).0)
+slice_bounds-scatterer_records-end c = omega (arith, (within (goal.at.slice_bounds-scatterer_records-end c).After-min-k).0)
 
 pub scatterer_records-requires : goal.scatterer_records-requires
 scatterer_records-requires c =
     let l = c.loop-done in
     let s = (goal.at.scatterer_records-requires c).Start in
     let t = s.args.t.now in
-    let k = c.least-k.result in
+    let k = c.min-k.result in
     let takes = ap (λ (n : ℕ). k * n) s.requires.1 in (
       s.requires.0,
-      rw (tail-is (l.done * s.args.each) t, length-drop) (omega (arith, (within (goal.at.scatterer_records-requires c).After-least-k).0, takes)),
-      omega (arith, (few (goal.at.scatterer_records-requires c).After-least-k).2, l.invariant.1, s.requires.4),
+      rw (tail-is (l.done * s.args.each) t, length-drop) (omega (arith, (within (goal.at.scatterer_records-requires c).After-min-k).0, takes)),
+      omega (arith, (few (goal.at.scatterer_records-requires c).After-min-k).2, l.invariant.1, s.told-window),
     )
 
 pub slice_bounds-is_front-end : goal.slice_bounds-is_front-end
-slice_bounds-is_front-end c = omega (arith, (within (goal.at.slice_bounds-is_front-end c).After-least-k).1)
+slice_bounds-is_front-end c = omega (arith, (within (goal.at.slice_bounds-is_front-end c).After-min-k).1)
 
 pub is_front-requires : goal.is_front-requires
 is_front-requires c =
-    simp length-take (omega (arith, (few (goal.at.is_front-requires c).After-least-k).2, c.loop-done.invariant.1, c.requires.4, c.scatterer_records.auto))
+    simp length-take (omega (arith, (few (goal.at.is_front-requires c).After-min-k).2, c.loop-done.invariant.1, c.told-window, c.scatterer_records.auto))
 
 pub returns-then-not-is_front : goal.returns-then-not-is_front
 returns-then-not-is_front c =
     let l = c.loop-done in
     let s = (goal.at.returns-then-not-is_front c).Start in
     let p = s.args.s in
-    batch-differs (records p) s.args.each (record_length 12) (joined s) (long p) s.args.t.now p.count l.done c.least-k.result (few (goal.at.returns-then-not-is_front c).After-least-k).0 s.args.x.now l.window _ s.requires.3 (omega (arith, (few (goal.at.returns-then-not-is_front c).After-least-k).2, l.invariant.1, s.requires.4)) c.scatterer_records.ensures c.is_front.ensures c.if-not-is_front.true
+    batch-differs (records p) s.args.each (record_length 12) (joined s) (long p) s.args.t.now p.count l.done c.min-k.result (few (goal.at.returns-then-not-is_front c).After-min-k).0 s.args.x.now l.window _ s.requires.3 (omega (arith, (few (goal.at.returns-then-not-is_front c).After-min-k).2, l.invariant.1, s.told-window)) c.scatterer_records.ensures c.is_front.ensures c.if-not-is_front.true
     ∙ l.invariant.2
 
 pub overflow_add-done : goal.overflow_add-done
-overflow_add-done c = omega (arith, (few (goal.at.overflow_add-done c).After-least-k).0)
+overflow_add-done c = omega (arith, (few (goal.at.overflow_add-done c).After-min-k).0)
 
 pub loop-done-smaller : goal.loop-done-smaller
-loop-done-smaller c = let f = few (goal.at.loop-done-smaller c).After-least-k in omega (arith, f.0, f.1)
+loop-done-smaller c = let f = few (goal.at.loop-done-smaller c).After-min-k in omega (arith, f.0, f.1)
 
 pub loop-done-preserved : goal.loop-done-preserved
 loop-done-preserved c =
@@ -111,10 +111,10 @@ loop-done-preserved c =
     let s = (goal.at.loop-done-preserved c).Start in
     let p = s.args.s in
     let t = s.args.t.now in
-    let k = c.least-k.result in (
-      (few (goal.at.loop-done-preserved c).After-least-k).0,
+    let k = c.min-k.result in (
+      (few (goal.at.loop-done-preserved c).After-min-k).0,
       omega (arith, c.scatterer_records.auto, l.invariant.1),
-      batch-same (records p) s.args.each (record_length 12) (joined s) (long p) t p.count l.done k (few (goal.at.loop-done-preserved c).After-least-k).0 s.args.x.now l.window _ s.requires.3 (omega (arith, (few (goal.at.loop-done-preserved c).After-least-k).2, l.invariant.1, s.requires.4)) c.scatterer_records.ensures c.is_front.ensures c.if-not-is_front.false
+      batch-same (records p) s.args.each (record_length 12) (joined s) (long p) t p.count l.done k (few (goal.at.loop-done-preserved c).After-min-k).0 s.args.x.now l.window _ s.requires.3 (omega (arith, (few (goal.at.loop-done-preserved c).After-min-k).2, l.invariant.1, s.told-window)) c.scatterer_records.ensures c.is_front.ensures c.if-not-is_front.false
           ∙ l.invariant.2,
     )
 

@@ -9,7 +9,7 @@ use mathlib.Core.Bool.{Bool, false}
 use mathlib.Core.List.{List}
 use lib.ListN.{length, take, drop, length-drop}
 use Rattle.octets.proofs.Parts.{tail-is}
-use Rattle.format.specs.declared.Check.TheVariants.{Passed}
+use Rattle.format.specs.Check.{Passed}
 use Rattle.format.specs.Edition.{is_hrr}
 use Rattle.format.specs.Sheet.{body_length, record_of, pieces_of, piece_count, text_records, opaque_records, segment_records, record_bytes}
 use Rattle.format.specs.Lengths.{record_length}
@@ -70,29 +70,29 @@ opaque c =
 
 pub returns-then-x-le-WINDOW : goal.returns-then-x-le-WINDOW
 returns-then-x-le-WINDOW c =
-    filled-same (bytes_as (goal.at.returns-then-x-le-WINDOW c).Start c.args.segment_type) (x (goal.at.returns-then-x-le-WINDOW c).Start) c.args.window.now _ c.segment_records.ensures.o_after c.requires.1 (omega (arith, c.if-x-le-WINDOW.true, c.requires.2)) c.is_front.ensures
+    filled-same (bytes_as (goal.at.returns-then-x-le-WINDOW c).Start c.args.segment_type) (x (goal.at.returns-then-x-le-WINDOW c).Start) c.args.window.now _ c.segment_records.ensures.o_after c.requires.1 (omega (arith, c.if-x-le-WINDOW.true, c.told-window)) c.is_front.ensures
 
 pub same_dwell-requires : goal.same_dwell-requires
 unfolding body_rows is_hrr
 same_dwell-requires c =
     let e = c.in-2.is in
-    (rows (goal.at.same_dwell-requires c).Start 2 e, long (goal.at.same_dwell-requires c).Start 2 e, c.requires.2)
+    (rows (goal.at.same_dwell-requires c).Start 2 e, long (goal.at.same_dwell-requires c).Start 2 e)
 
 pub same_hrr-requires : goal.same_hrr-requires
 unfolding body_rows is_hrr
 same_hrr-requires c =
     let e = c.in-3.is in
     let read = sym c.is_hrr_read.ensures ∙ c.if-is_hrr_read.true in
-    (rw read at (rows (goal.at.same_hrr-requires c).Start 3 e), rw read at (long (goal.at.same_hrr-requires c).Start 3 e), c.requires.2)
+    (rw read at (rows (goal.at.same_hrr-requires c).Start 3 e), rw read at (long (goal.at.same_hrr-requires c).Start 3 e))
 
 pub same_opaque-requires : goal.same_opaque-requires
 same_opaque-requires c =
-    (c.requires.0.short, sym (length-opaque c.args.segment_type (b (goal.at.same_opaque-requires c).Start)) ∙ long-opaque (goal.at.same_opaque-requires c).Start (unread (goal.at.same_opaque-requires c).Start c.in-3.is c.is_hrr_read.ensures c.if-is_hrr_read.false), c.requires.2)
+    (c.requires.0.short, sym (length-opaque c.args.segment_type (b (goal.at.same_opaque-requires c).Start)) ∙ long-opaque (goal.at.same_opaque-requires c).Start (unread (goal.at.same_opaque-requires c).Start c.in-3.is c.is_hrr_read.ensures c.if-is_hrr_read.false))
 
 pub text_record-requires : goal.text_record-requires
 unfolding body_rows is_hrr
 text_record-requires c =
-    (text-length (b (goal.at.text_record-requires c).Start) (rows (goal.at.text_record-requires c).Start 6 c.in-6.is), c.requires.0.short, omega (arith, c.requires.2))
+    (text-length (b (goal.at.text_record-requires c).Start) (rows (goal.at.text_record-requires c).Start 6 c.in-6.is), c.requires.0.short, omega (arith, c.told-window))
 
 pub slice_bounds-same_with_pieces-count : goal.slice_bounds-same_with_pieces-count
 unfolding body_rows is_hrr
@@ -106,11 +106,11 @@ slice_bounds-same_with_pieces-start c = omega (arith, text-length (b (goal.at.sl
 pub same_with_pieces-requires : goal.same_with_pieces-requires
 same_with_pieces-requires c =
     let kept = c.text_record.auto in
-    (omega (arith, kept, c.requires.2), omega (arith, long (goal.at.same_with_pieces-requires c).Start 6 c.in-6.is, ap piece_count (pieces (goal.at.same_with_pieces-requires c).Start)), omega (arith, kept, c.requires.2))
+    (omega (arith, kept, c.told-window), omega (arith, long (goal.at.same_with_pieces-requires c).Start 6 c.in-6.is, ap piece_count (pieces (goal.at.same_with_pieces-requires c).Start)))
 
 pub same_opaque-requires-in_default : goal.same_opaque-requires-in_default
 same_opaque-requires-in_default c =
-    (c.requires.0.short, sym (length-opaque c.args.segment_type (b (goal.at.same_opaque-requires-in_default c).Start)) ∙ long-opaque (goal.at.same_opaque-requires-in_default c).Start (opaque (goal.at.same_opaque-requires-in_default c).In_default), c.requires.2)
+    (c.requires.0.short, sym (length-opaque c.args.segment_type (b (goal.at.same_opaque-requires-in_default c).Start)) ∙ long-opaque (goal.at.same_opaque-requires-in_default c).Start (opaque (goal.at.same_opaque-requires-in_default c).In_default))
 
 pub returns-in-2 : goal.returns-in-2
 unfolding segment_records
@@ -129,7 +129,7 @@ returns-else-is_hrr_read c =
 pub returns-in-6 : goal.returns-in-6
 unfolding segment_records text_records body_length is_hrr
 returns-in-6 c =
-    behind-same (record_of 5 _) (pieces_of (take (length (b (goal.at.returns-in-6 c).Start) - 20) (drop 20 (b (goal.at.returns-in-6 c).Start)))) (bytes_as (goal.at.returns-in-6 c).Start c.args.segment_type) (x (goal.at.returns-in-6 c).Start) c.args.window.now _ (record_length 5) c.text_record.ensures (length-one 5 _) (omega (arith, c.requires.2)) c.same_with_pieces.ensures
+    behind-same (record_of 5 _) (pieces_of (take (length (b (goal.at.returns-in-6 c).Start) - 20) (drop 20 (b (goal.at.returns-in-6 c).Start)))) (bytes_as (goal.at.returns-in-6 c).Start c.args.segment_type) (x (goal.at.returns-in-6 c).Start) c.args.window.now _ (record_length 5) c.text_record.ensures (length-one 5 _) (omega (arith, c.told-window)) c.same_with_pieces.ensures
     (rw (tail-is 20 (b (goal.at.returns-in-6 c).Start)) (bytes-are (goal.at.returns-in-6 c).Start 6 c.in-6.is))
 
 pub returns-in_default : goal.returns-in_default

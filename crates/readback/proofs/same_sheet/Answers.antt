@@ -36,14 +36,14 @@ module _ (c : After-reading_of-r) where
 
 -- the header's record stands in the window
 laid : (c : After-header_record) → take (record_length 1) c.header_record.new.o ≡ header (goal.at.After-header_record c).After-reading_of-r
-laid c = front-is (header (goal.at.After-header_record c).After-reading_of-r) c.args.window.now _ (record_length 1) c.header_record.ensures (length-header (packet (goal.at.After-header_record c).After-reading_of-r)) (omega (arith, c.requires.2))
+laid c = front-is (header (goal.at.After-header_record c).After-reading_of-r) c.args.window.now _ (record_length 1) c.header_record.ensures (length-header (packet (goal.at.After-header_record c).After-reading_of-r)) (omega (arith, c.told-window))
 
 pub header_record-requires : goal.header_record-requires
 unfolding body_length
-header_record-requires c = ((known (goal.at.header_record-requires c).After-reading_of-r).headed, omega (arith, c.requires.2))
+header_record-requires c = ((known (goal.at.header_record-requires c).After-reading_of-r).headed, omega (arith, c.told-window))
 
-pub slice_bounds-is_front-end : goal.slice_bounds-is_front-end
-slice_bounds-is_front-end c = omega (arith, long (goal.at.slice_bounds-is_front-end c).After-reading_of-r)
+pub slice_bounds-is_front-end-2 : goal.slice_bounds-is_front-end-2
+slice_bounds-is_front-end-2 c = omega (arith, long (goal.at.slice_bounds-is_front-end-2 c).After-reading_of-r)
 
 pub returns-then-not-is_front : goal.returns-then-not-is_front
 returns-then-not-is_front c =
@@ -64,7 +64,7 @@ slice_bounds-same_records-start-2 c = omega (arith, long (goal.at.slice_bounds-s
 
 pub same_records-requires : goal.same_records-requires
 same_records-requires c =
-    ((known (goal.at.same_records-requires c).After-reading_of-r).checked, sym (left-length (record_length 1) _ (x (goal.at.same_records-requires c).After-reading_of-r) (long (goal.at.same_records-requires c).After-reading_of-r)), omega (arith, c.requires.2, c.header_record.auto))
+    ((known (goal.at.same_records-requires c).After-reading_of-r).checked, sym (left-length (record_length 1) _ (x (goal.at.same_records-requires c).After-reading_of-r) (long (goal.at.same_records-requires c).After-reading_of-r)))
 
 pub returns : goal.returns
 returns c =

@@ -7,7 +7,7 @@ use mathlib.Core.Path.{◌≡◌, sym, ◌∙◌}
 use mathlib.Core.List.{List}
 use lib.ListN.{length}
 use lib.Seq.{sets}
-use Rattle.format.specs.declared.Check.TheVariants.{Passed}
+use Rattle.format.specs.Check.{Passed}
 use Rattle.format.specs.Edition.{is_hrr}
 use Rattle.format.specs.Sheet.{body_length, opaque_records, segment_records, record_bytes}
 use Rattle.format.specs.Rows.{first_row, body_rows}

@@ -1,27 +1,21 @@
 -- `records::mission_records` meets its contract. The kind, and the bytes copied behind it.
 -- Assumes nothing.
-use mathlib.Core.Path.{◌≡◌, sym}
 use native.Mathlib.Omega.{arith}
-use lib.ListN.{length, take}
-use lib.Seq.{length-take-le}
 use Rattle.format.specs.Sheet.{body_length}
 use Rattle.records.proofs.Laid.{record-copied}
+use Rattle.records.proofs.Laid.{cut}
 use Rattle.records.proofs.mission_records.Goals as goal
 use Rattle.records.proofs.mission_records.Goals.{Start}
 
--- what is copied has the length of the record's body
-long : (s : Start) → length (take (body_length 2) s.args.b.now) ≡ body_length 2
-long s = length-take-le (body_length 2) s.args.b.now (omega (arith, s.requires.0))
-
-pub slice_bounds-copy32_to_40-end : goal.slice_bounds-copy32_to_40-end
+pub slice_bounds-copy_all-end : goal.slice_bounds-copy_all-end
 unfolding body_length
-slice_bounds-copy32_to_40-end c = sym (long (goal.at.slice_bounds-copy32_to_40-end c).Start)
+slice_bounds-copy_all-end c = cut 39 c.args.b.now (omega (arith, c.requires.0))
 
-pub copy32_to_40-requires : goal.copy32_to_40-requires
+pub copy_all-requires : goal.copy_all-requires
 unfolding body_length
-copy32_to_40-requires c = let e = long (goal.at.copy32_to_40-requires c).Start in (omega (arith, e), omega (arith, e), omega (arith, e))
+copy_all-requires c = omega (arith, cut 39 c.args.b.now (omega (arith, c.requires.0)))
 
 pub returns : goal.returns
 unfolding body_length
 returns c =
-    record-copied 2 c.args.b.now c.args.o.now (omega (arith, c.requires.0)) c.put_byte.ensures c.copy32_to_40.ensures
+    record-copied 2 c.args.b.now c.args.o.now (omega (arith, c.requires.0)) c.put_byte.ensures c.copy_all.ensures

@@ -3,7 +3,7 @@
 use Rattle.std.proofs.Common.{rules}
 use mathlib.Core.Path.{◌≡◌, sym, ◌∙◌}
 use Prim.Native.Nat.{ℕ}
-use Rattle.format.specs.declared.Check.{Check}
+use Rattle.format.specs.Check.{Check}
 use Rattle.format.specs.Edition.{is_hrr}
 use Rattle.format.specs.Rows.{first_row, body_rows}
 use Rattle.segments.proofs.Types.{row_as, row_other}

@@ -1,16 +1,20 @@
 -- `segments::check` meets its contract. The loop keeps that the walk from here on, with the counts so far, comes to the answer of the whole.
 -- Assumes nothing.
-use Prim.Native.Nat.{ℕ, ◌≤◌, zero-le}
+use Prim.Native.Nat.{ℕ, ◌+◌, ◌≤◌, zero-le}
 use mathlib.Core.Path.{ap, ◌∙◌}
 use native.Mathlib.Omega.{arith}
 use lib.ListN.{length, drop, length-drop}
 use Rattle.octets.proofs.ByteLists.{drop-bytes}
 use Rattle.octets.proofs.Parts.{tail-is}
-use Rattle.format.specs.declared.Answer.TheVariants.{Accepted}
+use Rattle.format.specs.Answer.{Accepted, Refused, answer_of}
+use Rattle.std.proofs.Common.{rules}
+use Rattle.std.proofs.lemmas.Result.{err_from_is_err_and}
+use Rattle.format.proofs.Rows.{mapped-ok, mapped-err}
+use Rattle.std.specs.Prelude.{◌≡◌, Ok, Err}
 use Rattle.segments.proofs.Counting.{past-at-most}
 use Rattle.segments.proofs.Walking.{IsGood, Fit, fit, Ended, walk_start, here-good, walk-bad, walk-good, walk_end}
 use Rattle.segments.proofs.check.Goals as goal
-use Rattle.segments.proofs.check.Goals.{After-loop-at, In-Good}
+use Rattle.segments.proofs.check.Goals.{After-loop-at, In_ok-found}
 
 pub loop-at-init : goal.loop-at-init
 loop-at-init c =
@@ -21,26 +25,31 @@ pub segment_at-requires : goal.segment_at-requires
 segment_at-requires c =
     rw (tail-is c.loop-at.at c.args.l.now, length-drop) (omega (arith, c.requires))
 
-pub overflow_add-result : goal.overflow_add-result
-overflow_add-result c =
-    omega (arith, c.loop-at.invariant.segments-le, c.loop-at.invariant.walked.within, c.requires)
-
-pub returns-in-Bad : goal.returns-in-Bad
-returns-in-Bad c =
+pub returns-in_err-found : goal.returns-in_err-found
+returns-in_err-found c =
     let l = c.loop-at in
     let a = c.args in
-    walk-bad a.r a.l.now l.at c.segment_at.ensures l.invariant.walked c.loop-at-test.true _ _ c.in-Bad.is
+    let (f, q, h) = mapped-err _ c.segment_at.result c.map_err.result _ c.map_err.ensures.cases c.in_err-found.was in
+    let (d, p, r) = err_from_is_err_and c.from_residual.result c.from_residual.ensures.1 in
+    let made : answer_of (Err c.in_err-found.field-0.0) ≡ Refused f.number (l.segments + 1) f.field = search rules in
+    ap answer_of (p ∙ ap Err r)
+    ∙ made
+    ∙ walk-bad a.r a.l.now l.at c.segment_at.ensures l.invariant.walked c.loop-at-test.true _ _ q
+
+-- what was found there
+found : (c : In_ok-found) → c.segment_at.result ≡ Ok c.in_ok-found.found
+found c = mapped-ok _ c.segment_at.result c.map_err.result _ c.map_err.ensures.cases c.in_ok-found.was
 
 -- the segment is good
-good : (c : In-Good) → let g = c.in-Good in
-    IsGood c.args.r (drop c.loop-at.at c.args.l.now) g.size g.its_targets g.its_length
+good : (c : In_ok-found) → let g = c.in_ok-found.found in
+    IsGood c.args.r (drop c.loop-at.at c.args.l.now) g.size g.targets g.length
 good c =
     let a = c.args in
-    here-good a.r a.l.now c.loop-at.at c.segment_at.ensures _ _ _ c.in-Good.is
+    here-good a.r a.l.now c.loop-at.at c.segment_at.ensures _ _ _ (found c)
 
 -- and adds no more than this
-sized : (c : In-Good) → let g = c.in-Good in
-    Fit (drop c.loop-at.at c.args.l.now) g.size g.its_targets g.its_length
+sized : (c : In_ok-found) → let g = c.in_ok-found.found in
+    Fit (drop c.loop-at.at c.args.l.now) g.size g.targets g.length
 sized c =
     let l = c.args.l.now in
     let at = c.loop-at.at in
@@ -53,28 +62,28 @@ overflow_add-segments c = omega (arith, c.loop-at.invariant.segments-le, c.loop-
 pub dwells_past-dwells-requires : goal.dwells_past-dwells-requires
 dwells_past-dwells-requires c =
     let i = c.loop-at.invariant in
-    (rw (tail-is c.loop-at.at c.args.l.now) (good (goal.at.dwells_past-dwells-requires c).In-Good).rows, (omega (arith, i.dwells-le.0, i.segments-le, i.walked.within, c.requires), omega (arith, i.dwells-le.1, i.segments-le, i.walked.within, c.requires)))
+    (rw (tail-is c.loop-at.at c.args.l.now) (good (goal.at.dwells_past-dwells-requires c).In_ok-found).rows, (omega (arith, i.dwells-le.0, i.segments-le, i.walked.within, c.requires), omega (arith, i.dwells-le.1, i.segments-le, i.walked.within, c.requires)))
 
 pub overflow_add-targets : goal.overflow_add-targets
-overflow_add-targets c = let i = c.loop-at.invariant in omega (arith, (sized (goal.at.overflow_add-targets c).In-Good).few, i.targets-le, i.walked.within, c.requires)
+overflow_add-targets c = let i = c.loop-at.invariant in omega (arith, (sized (goal.at.overflow_add-targets c).In_ok-found).few, i.targets-le, i.walked.within, c.requires)
 
 pub overflow_add-length : goal.overflow_add-length
-overflow_add-length c = let i = c.loop-at.invariant in omega (arith, (sized (goal.at.overflow_add-length c).In-Good).short, i.length-le, i.walked.within, c.requires)
+overflow_add-length c = let i = c.loop-at.invariant in omega (arith, (sized (goal.at.overflow_add-length c).In_ok-found).short, i.length-le, i.walked.within, c.requires)
 
 pub overflow_add-at : goal.overflow_add-at
-overflow_add-at c = let i = c.loop-at.invariant in omega (arith, simp length-drop at (sized (goal.at.overflow_add-at c).In-Good).within, i.walked.within, c.requires)
+overflow_add-at c = let i = c.loop-at.invariant in omega (arith, simp length-drop at (sized (goal.at.overflow_add-at c).In_ok-found).within, i.walked.within, c.requires)
 
 pub loop-at-smaller : goal.loop-at-smaller
-loop-at-smaller c = omega (arith, (sized (goal.at.loop-at-smaller c).In-Good).header)
+loop-at-smaller c = omega (arith, (sized (goal.at.loop-at-smaller c).In_ok-found).header)
 
 pub loop-at-preserved : goal.loop-at-preserved
 loop-at-preserved c =
     let a = c.args in
     let l = c.loop-at in
     let i = l.invariant in
-    let f = sized (goal.at.loop-at-preserved c).In-Good in
+    let f = sized (goal.at.loop-at-preserved c).In_ok-found in
     record {
-      walked = walk-good a.r a.l.now l.at c.segment_at.ensures i.walked c.loop-at-test.true _ _ _ c.in-Good.is c.dwells_past-dwells.ensures;
+      walked = walk-good a.r a.l.now l.at c.segment_at.ensures i.walked c.loop-at-test.true _ _ _ (found (goal.at.loop-at-preserved c).In_ok-found) c.dwells_past-dwells.ensures;
       segments-le = omega (arith, f.header, i.segments-le);
       dwells-le = past-at-most l.segments l.dwells _ _ c.dwells_past-dwells.ensures i.dwells-le;
       targets-le = omega (arith, f.header, f.few, i.targets-le);

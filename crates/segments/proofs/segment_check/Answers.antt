@@ -8,7 +8,7 @@ use mathlib.Core.Logic.{inl, inr}
 use borrow.Author.Tests.{lt-ltb, le-ltb, eq-eqb, ne_eqb}
 use lib.ListN.{length, drop}
 use Rattle.format.specs.declared.Reading.{Reading}
-use Rattle.format.specs.declared.Check.{Check}
+use Rattle.format.specs.Check.{Check}
 use Rattle.format.specs.Packet.{type_at}
 use Rattle.format.specs.Rows.{first_row, body_rows, segment_rows}
 use Rattle.format.proofs.Segments.{body-part}
@@ -50,18 +50,22 @@ past-15 c =
 
 pub returns-then-l-lt5 : goal.returns-then-l-lt5
 unfolding first_row segment_rows
-returns-then-l-lt5 c = rw (lt-ltb (length c.args.l.now) 5 c.if-l-lt5.true)
+returns-then-l-lt5 c =
+    c.row.ensures
+    ∙ rw (lt-ltb (length c.args.l.now) 5 c.if-l-lt5.true)
 
 pub returns-then-not-is_known_type : goal.returns-then-not-is_known_type
 unfolding first_row segment_rows type_at
 returns-then-not-is_known_type c =
-    sym (past-6 (goal.at.returns-then-not-is_known_type c).Else-l-lt5 ∙ rw (sym c.is_known_type.ensures ∙ c.if-not-is_known_type.true))
+    c.row-then-not-is_known_type.ensures
+    ∙ sym (past-6 (goal.at.returns-then-not-is_known_type c).Else-l-lt5 ∙ rw (sym c.is_known_type.ensures ∙ c.if-not-is_known_type.true))
 
 pub returns-then-size-lt5 : goal.returns-then-size-lt5
 unfolding first_row segment_rows
 returns-then-size-lt5 c =
     let z = c.size_at-size.result in
-    sym
+    c.row-then-size-lt5.ensures
+    ∙ sym
     (past-7 (goal.at.returns-then-size-lt5 c).Else-not-is_known_type
     ∙ rw (sym c.size_at-size.ensures)
     (elim c.then-size-lt5.either [ inl h ↦ rw (lt-ltb z 5 h) | inr h ↦ rw (le-ltb z 5 h.0, lt-ltb (length c.args.l.now) z h.1) ]))
@@ -69,7 +73,8 @@ returns-then-size-lt5 c =
 pub returns-then-segment_type-eq3 : goal.returns-then-segment_type-eq3
 unfolding first_row segment_rows type_at
 returns-then-segment_type-eq3 c =
-    sym (past-8 (goal.at.returns-then-segment_type-eq3 c).Else-l-size ∙ rw (sym c.is_older.ensures ∙ c.if-is_older.true, eq-eqb _ 3 c.if-segment_type-eq3.true))
+    c.row-then-segment_type-eq3.ensures
+    ∙ sym (past-8 (goal.at.returns-then-segment_type-eq3 c).Else-l-size ∙ rw (sym c.is_older.ensures ∙ c.if-is_older.true, eq-eqb _ 3 c.if-segment_type-eq3.true))
 
 pub returns : goal.returns
 unfolding segment_rows type_at

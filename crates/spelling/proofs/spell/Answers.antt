@@ -1,14 +1,14 @@
 -- `spelling::spell` meets its contract. The header is copied; the loop keeps that what is left to spell, stored, gives the packet.
 -- Assumes nothing.
-use mathlib.Core.Path.{◌≡◌, sym, ap, ◌∙◌}
+use mathlib.Core.Path.{◌≡◌, sym, ◌∙◌}
 use mathlib.Core.List.{[]}
 use Prim.Native.Nat.{◌+◌, ◌≤◌}
 use native.Mathlib.Omega.{arith}
 use lib.ListN.{length, drop, length-drop}
 use lib.Seq.{sets}
 use Rattle.octets.proofs.Parts.{tail-is}
-use Rattle.format.specs.Writer.{Listed, listed, spell}
-use Rattle.sheet_walk.proofs.Places.{WholeAt, at_place}
+use Rattle.format.specs.Writer.{listed, spell}
+use Rattle.sheet_walk.proofs.Places.{WholeAt, at_place, none-at}
 use Rattle.spelling.proofs.Walk.{header, spell-length-is, all_left, packet-stored, adds, has_room, begins-with, then-within, spellable, turned-follower, turned-leader, stored, none_left}
 use Rattle.spelling.proofs.spell.Goals as goal
 use Rattle.spelling.proofs.spell.Goals.{After-put_next-step, At-loop-kind, In-Whole}
@@ -21,10 +21,6 @@ pub loop-kind-init : goal.loop-kind-init
 loop-kind-init c =
     all_left c.args.x.now c.requires.0 _ c.requires.1 (omega (arith, c.copy32.auto.o, c.requires.2))
 
-pub shape_of-o-in-End : goal.shape_of-o-in-End
-shape_of-o-in-End c =
-    omega (arith, c.loop-kind.invariant.same, c.copy32.auto.o)
-
 -- where no record is left
 ended : (c : At-loop-kind)
     → (listed (drop c.loop-kind.at c.args.x.now)).records ≡ []
@@ -32,17 +28,9 @@ ended : (c : At-loop-kind)
 ended c e =
     packet-stored c.args.x.now c.requires.0 c.args.o.now c.copy32.ensures (none_left _ _ _ _ _ _ _ c.loop-kind.invariant e)
 
-pub returns-in-End : goal.returns-in-End
-returns-in-End c =
-    ended (goal.at.returns-in-End c).At-loop-kind (ap (λ (l : Listed). l.records) (at_place _ _ c.record_at.ensures c.in-End.is))
-
-pub shape_of-o-in-Cut : goal.shape_of-o-in-Cut
-shape_of-o-in-Cut c =
-    omega (arith, c.loop-kind.invariant.same, c.copy32.auto.o)
-
-pub returns-in-Cut : goal.returns-in-Cut
-returns-in-Cut c =
-    ended (goal.at.returns-in-Cut c).At-loop-kind (ap (λ (l : Listed). l.records) (at_place _ _ c.record_at.ensures c.in-Cut.is))
+pub returns : goal.returns
+returns c =
+    ended (goal.at.returns c).At-loop-kind (none-at c.args.x.now c.loop-kind.at c.record_at.result c.record_at.ensures c.in_default.not-Whole)
 
 -- the record
 here : (t : In-Whole) → WholeAt t.args.x.now t.loop-kind.at t.in-Whole.kind t.in-Whole.end

@@ -4,15 +4,15 @@
 use native.Mathlib.Omega.{arith}
 use mathlib.Core.Path.{sym, ◌∙◌}
 use Rattle.sheet_walk.proofs.Places.{WholeAt, at_place}
-use Rattle.spelling.proofs.Surveyed.{Walked, no-header, start, at-end, at_cut, again, onward, turn, past-passed}
+use Rattle.spelling.proofs.Surveyed.{Walked, err-rest, no-header, start, at-end, at_cut, again, onward, turn, past-passed}
 use Rattle.spelling.proofs.survey_of.Goals as goal
-use Rattle.spelling.proofs.survey_of.Goals.{In-Then, In-Whole}
+use Rattle.spelling.proofs.survey_of.Goals.{In-Some-count, In-Whole}
 
-pub returns-then-at-eq0 : goal.returns-then-at-eq0
-returns-then-at-eq0 c = sym (no-header c.args.x.now (sym c.header_end-at.ensures ∙ c.if-at-eq0.true))
+pub returns-in_default : goal.returns-in_default
+returns-in_default c = sym (no-header c.args.x.now (sym c.in_default.is ∙ c.header_end.ensures))
 
 pub loop-kind-init : goal.loop-kind-init
-loop-kind-init c = start c.args.x.now _ c.header_end-at.ensures c.if-at-eq0.false
+loop-kind-init c = start c.args.x.now _ (sym c.in-Some.is ∙ c.header_end.ensures)
 
 pub returns-in-Cut : goal.returns-in-Cut
 returns-in-Cut c =
@@ -50,25 +50,25 @@ count-requires c =
     let f = (here (goal.at.count-requires c).In-Whole).formed in
     (f.length_is, omega (arith, f.kind, f.length_is), c.loop-kind.invariant.short)
 
-pub returns-in-Misplaced : goal.returns-in-Misplaced
-returns-in-Misplaced c =
+pub returns-in_default-count : goal.returns-in_default-count
+returns-in_default-count c =
     let l = c.loop-kind in
-    c.incomplete.ensures
-    ∙ sym (onward _ _ _ _ _ l.invariant _ _ (here (goal.at.returns-in-Misplaced c).In-Whole) c.if-kind-eq-KIND.false (sym c.in-Misplaced.is ∙ c.count.ensures))
+    err-rest _ c.incomplete.ensures
+    ∙ sym (onward _ _ _ _ _ l.invariant _ _ (here (goal.at.returns-in_default-count c).In-Whole) c.if-kind-eq-KIND.false (sym c.in_default-count.is ∙ c.count.ensures))
 
 -- what is kept behind the record
-behind : (c : In-Then) → Walked c.args.x.now c.in-Whole.end c.in-Then.f c.in-Then.l c.in-Then.s
+behind : (c : In-Some-count) → Walked c.args.x.now c.in-Whole.end c.in-Some-count.next.follower c.in-Some-count.next.left c.in-Some-count.next.sum
 behind c =
     let l = c.loop-kind in
-    turn _ _ _ _ _ l.invariant _ _ (here (goal.at.In-Then c).In-Whole) c.if-kind-eq-KIND.false _ _ _ (sym c.in-Then.is ∙ c.count.ensures)
+    turn _ _ _ _ _ l.invariant _ _ (here (goal.at.In-Some-count c).In-Whole) c.if-kind-eq-KIND.false _ _ _ (sym c.in-Some-count.is ∙ c.count.ensures)
 
-pub loop-kind-smaller-then-left-gt0 : goal.loop-kind-smaller-then-left-gt0
-loop-kind-smaller-then-left-gt0 c =
-    let h = here (goal.at.loop-kind-smaller-then-left-gt0 c).In-Whole in
+pub loop-kind-smaller-then-counted-gt0 : goal.loop-kind-smaller-then-counted-gt0
+loop-kind-smaller-then-counted-gt0 c =
+    let h = here (goal.at.loop-kind-smaller-then-counted-gt0 c).In-Whole in
     omega (arith, h.within, h.fits)
 
-pub loop-kind-preserved-then-left-gt0 : goal.loop-kind-preserved-then-left-gt0
-loop-kind-preserved-then-left-gt0 c = behind (goal.at.loop-kind-preserved-then-left-gt0 c).In-Then
+pub loop-kind-preserved-then-counted-gt0 : goal.loop-kind-preserved-then-counted-gt0
+loop-kind-preserved-then-counted-gt0 c = behind (goal.at.loop-kind-preserved-then-counted-gt0 c).In-Some-count
 
 pub passed-ahead-requires : goal.passed-ahead-requires
 passed-ahead-requires c = (here (goal.at.passed-ahead-requires c).In-Whole).fits
@@ -80,4 +80,4 @@ loop-kind-smaller c =
     omega (arith, h.within, h.fits, c.passed-ahead.ensures.1)
 
 pub loop-kind-preserved : goal.loop-kind-preserved
-loop-kind-preserved c = past-passed _ _ _ _ _ _ (here (goal.at.loop-kind-preserved c).In-Whole).fits (behind (goal.at.loop-kind-preserved c).In-Then) c.passed-ahead.ensures
+loop-kind-preserved c = past-passed _ _ _ _ _ _ (here (goal.at.loop-kind-preserved c).In-Whole).fits (behind (goal.at.loop-kind-preserved c).In-Some-count) c.passed-ahead.ensures

@@ -7,7 +7,7 @@ use Rattle.spelling.proofs.Surveyed.{Walked}
 use Rattle.spelling.proofs.survey_of.Given as goal
 
 abbrev pub invariant-loop-kind : goal.invariant-loop-kind
-invariant-loop-kind l = Walked l.x l.at l.follower l.left l.sum
+invariant-loop-kind l = Walked l.x l.at l.counted.follower l.counted.left l.counted.sum
 
 abbrev pub decreases-loop-kind : goal.decreases-loop-kind
 decreases-loop-kind l = length l.x - l.at

@@ -5,4 +5,4 @@ use Rattle.text.proofs.Bytes.{line-within}
 use Rattle.text.proofs.line_rank.Goals as goal
 
 pub returns : goal.returns
-returns c = line-within c.args.c c.wrapping_sub_u8.result (omega arith) c.wrapping_sub_u8.ensures.value
+returns c = line-within c.args.c _ (omega arith) (omega arith)

@@ -6,5 +6,4 @@ use Rattle.unpack_dwell.proofs.d10_to_14.Goals as goal
 
 pub returns : goal.returns
 unfolding total
-returns c =
-    onward (onward (onward (onward c.field4-a.ensures c.field4-b.ensures) c.field4-c.ensures) c.field4-d.ensures) c.field2.ensures
+returns c = onward (onward (onward (onward c.field.ensures c.field-2.ensures) c.field-3.ensures) c.field-4.ensures) c.field-5.ensures

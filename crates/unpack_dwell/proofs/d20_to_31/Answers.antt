@@ -6,5 +6,4 @@ use Rattle.unpack_dwell.proofs.d20_to_31.Goals as goal
 
 pub returns : goal.returns
 unfolding total
-returns c =
-    onward (onward c.d20_to_23-a.ensures c.d24_to_27-b.ensures) c.d28_to_31.ensures
+returns c = onward (onward c.d20_to_23.ensures c.d24_to_27.ensures) c.d28_to_31.ensures

@@ -6,5 +6,4 @@ use Rattle.unpack_dwell.proofs.d28_to_31.Goals as goal
 
 pub returns : goal.returns
 unfolding total
-returns c =
-    onward (onward (onward c.field2-a.ensures c.field2-b.ensures) c.field2-c.ensures) c.field1.ensures
+returns c = onward (onward (onward c.field.ensures c.field-2.ensures) c.field-3.ensures) c.field-4.ensures

@@ -6,5 +6,4 @@ use Rattle.unpack_dwell.proofs.d2_to_19.Goals as goal
 
 pub returns : goal.returns
 unfolding total
-returns c =
-    onward (onward c.d2_to_9-a.ensures c.d10_to_14-b.ensures) c.d15_to_19.ensures
+returns c = onward (onward c.d2_to_9.ensures c.d10_to_14.ensures) c.d15_to_19.ensures

@@ -4,20 +4,19 @@ use mathlib.Core.Path.{refl}
 use native.Mathlib.Omega.{arith}
 use Rattle.octets.specs.Layout.{total}
 use Rattle.mask.specs.Fields.{announced}
-use Rattle.unpack.proofs.Lines.{onward, copied-needs, copied}
+use Rattle.unpack.proofs.Lines.{onward, copied-needs, copied, ending}
 use Rattle.unpack_target.proofs.behind.Goals as goal
+use Rattle.unpack_target.proofs.behind.Goals.{then-has_all, else-has_all}
 
-pub copy21-requires : goal.copy21-requires
+pub block-requires : goal.block-requires
 unfolding announced total
-copy21-requires c =
-    omega (arith, copied-needs _ c.requires c.has_all.ensures c.if-has_all.true refl)
+block-requires c = omega (arith, copied-needs _ c.requires c.has_all.ensures c.if-has_all.true refl)
 
-pub returns-then-has_all : goal.returns-then-has_all
+pub returns : goal.returns
 unfolding announced total
-returns-then-has_all c =
-    copied _ c.requires c.has_all.ensures c.if-has_all.true refl c.copy21.ensures
-
-pub returns-else-has_all : goal.returns-else-has_all
-unfolding total
-returns-else-has_all c =
-    onward c.middle-a.ensures c.d32_16_and_17.ensures
+returns c =
+    ending {v = c.if-has_all.u} refl
+    (elim c.if-has_all.branch [
+      | then-has_all w ↦ rw w.u-is (copied _ c.requires c.has_all.ensures w.if-has_all.true refl w.block.ensures)
+      | else-has_all w ↦ rw w.u-is (onward w.middle.ensures w.d32_16_and_17.ensures)
+    ])

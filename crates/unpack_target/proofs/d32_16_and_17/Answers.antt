@@ -6,5 +6,4 @@ use Rattle.unpack_target.proofs.d32_16_and_17.Goals as goal
 
 pub returns : goal.returns
 unfolding total
-returns c =
-    onward c.field1-a.ensures c.field4.ensures
+returns c = onward c.field.ensures c.field-2.ensures

@@ -6,38 +6,37 @@ use native.Mathlib.Omega.{arith}
 use borrow.Author.Rules.{rules}
 use Rattle.octets.specs.Layout.{total}
 use Rattle.mask.specs.Fields.{announced, announced_length}
-use Rattle.unpack.proofs.Lines.{onward, copied-needs, copied, cleared, clear-front, clear_behind, clear-stored, onto-zeros}
+use Rattle.unpack.proofs.Lines.{onward, copied-needs, copied, cleared, clear-front, clear_behind, clear-stored, onto-zeros, ending}
 use Rattle.unpack_target.proofs.middle.Goals as goal
+use Rattle.unpack_target.proofs.middle.Goals.{then-has_all, else-has_all+then-has_none, else-has_all+else-has_none}
 
-pub copy16-requires : goal.copy16-requires
+pub block-requires : goal.block-requires
 unfolding announced total
-copy16-requires c =
-    omega (arith, copied-needs _ c.requires c.has_all.ensures c.if-has_all.true refl)
+block-requires c = omega (arith, copied-needs _ c.requires c.has_all.ensures c.if-has_all.true refl)
 
 -- both parts are laid out where zeros were stored: the first leaves those behind it
-pub d32_6_to_10-a-requires : goal.d32_6_to_10-a-requires
+pub d32_6_to_10-requires : goal.d32_6_to_10-requires
 unfolding announced_length total
-d32_6_to_10-a-requires c =
-    let zeros = clear-front 8 (omega arith) (clear-stored c.requires c.clear16-else-has_none.ensures) in
+d32_6_to_10-requires c =
+    let zeros = clear-front 8 (omega arith) (clear-stored c.requires c.clear.ensures) in
     search rules
 
 pub d32_11_to_15-requires : goal.d32_11_to_15-requires
 unfolding announced_length total
 d32_11_to_15-requires c =
-    let zeros = clear_behind 8 (omega arith) (clear-stored c.requires c.clear16-else-has_none.ensures) c.d32_6_to_10-a.ensures in
+    let zeros = clear_behind 8 (omega arith) (clear-stored c.requires c.clear.ensures) c.d32_6_to_10.ensures in
     search rules
 
-pub returns-then-has_all : goal.returns-then-has_all
+pub returns : goal.returns
 unfolding announced total
-returns-then-has_all c =
-    copied _ c.requires c.has_all.ensures c.if-has_all.true refl c.copy16.ensures
-
-pub returns-then-has_none : goal.returns-then-has_none
-unfolding announced total
-returns-then-has_none c =
-    cleared _ c.has_none.ensures c.if-has_none.true refl c.clear16.ensures
-
-pub returns-else-has_none : goal.returns-else-has_none
-unfolding total
-returns-else-has_none c =
-    onto-zeros c.clear16-else-has_none.ensures (onward c.d32_6_to_10-a.ensures c.d32_11_to_15.ensures)
+returns c =
+    ending {v = c.if-has_all.u} refl
+    (elim c.if-has_all.branch [
+      | then-has_all w ↦ rw w.u-is (copied _ c.requires c.has_all.ensures w.if-has_all.true refl w.block.ensures)
+      | else-has_all+then-has_none w ↦ rw w.u-is (cleared _ w.has_none.ensures w.if-has_none.true refl w.blank.ensures)
+      | else-has_all+else-has_none w ↦
+          rw w.u-is
+          (onto-zeros
+          (record { next = omega arith; behind = omega arith; stored = w.clear.ensures; long = search rules; given = refl; masked = refl; lent = refl })
+          (onward w.d32_6_to_10.ensures w.d32_11_to_15.ensures))
+    ])

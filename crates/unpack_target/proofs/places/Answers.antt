@@ -4,25 +4,20 @@ use mathlib.Core.Path.{refl}
 use native.Mathlib.Omega.{arith}
 use Rattle.octets.specs.Layout.{total}
 use Rattle.mask.specs.Fields.{announced}
-use Rattle.unpack.proofs.Lines.{onward, copied-needs, copied, cleared}
+use Rattle.unpack.proofs.Lines.{onward, copied-needs, copied, cleared, ending}
 use Rattle.unpack_target.proofs.places.Goals as goal
+use Rattle.unpack_target.proofs.places.Goals.{then-has_all, else-has_all+then-has_none, else-has_all+else-has_none}
 
-pub copy8-requires : goal.copy8-requires
+pub block-requires : goal.block-requires
 unfolding announced total
-copy8-requires c =
-    omega (arith, copied-needs _ c.requires c.has_all.ensures c.if-has_all.true refl)
+block-requires c = omega (arith, copied-needs _ c.requires c.has_all.ensures c.if-has_all.true refl)
 
-pub returns-then-has_all : goal.returns-then-has_all
+pub returns : goal.returns
 unfolding announced total
-returns-then-has_all c =
-    copied _ c.requires c.has_all.ensures c.if-has_all.true refl c.copy8.ensures
-
-pub returns-then-has_none : goal.returns-then-has_none
-unfolding announced total
-returns-then-has_none c =
-    cleared _ c.has_none.ensures c.if-has_none.true refl c.clear8.ensures
-
-pub returns-else-has_none : goal.returns-else-has_none
-unfolding total
-returns-else-has_none c =
-    onward c.field4-a.ensures c.field4.ensures
+returns c =
+    ending {v = c.if-has_all.u} refl
+    (elim c.if-has_all.branch [
+      | then-has_all w ↦ rw w.u-is (copied _ c.requires c.has_all.ensures w.if-has_all.true refl w.block.ensures)
+      | else-has_all+then-has_none w ↦ rw w.u-is (cleared _ w.has_none.ensures w.if-has_none.true refl w.blank.ensures)
+      | else-has_all+else-has_none w ↦ rw w.u-is (onward w.field.ensures w.field-else-has_none.ensures)
+    ])

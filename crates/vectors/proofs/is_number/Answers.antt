@@ -1,27 +1,16 @@
--- `vectors::is_number` meets its contract. The loop keeps that the characters left decide whether all are digits.
--- Assumes nothing.
-use native.Mathlib.Omega.{arith}
-use mathlib.Core.Path.{refl, sym, ◌∙◌}
-use Rattle.vectors.specs.Vectors.{is_number}
-use Rattle.vectors.proofs.Spellings.{digits-each, each_next, each-fails, each-end}
+-- std's search over the characters, where there are any.
+use Rattle.std.proofs.Common.{rules, tests, arith, true-eqb, false-eqb, sym, ◌∙◌}
+use Rattle.std.specs.Char.{is_ascii_digit}
+use Rattle.std.proofs.lemmas.Iterator.{YieldsList-from_slice}
+use Rattle.std.proofs.lemmas.Iterator.Search.{all_from_yields_List}
+use Rattle.vectors.proofs.Spellings.{number_is, number-none}
 use Rattle.vectors.proofs.is_number.Goals as goal
 
-pub loop-i-init : goal.loop-i-init
-loop-i-init c = (omega arith, refl)
+pub returns-then-not-is_empty : goal.returns-then-not-is_empty
+returns-then-not-is_empty c =
+    let s = c.args.s.now in
+    let all = all_from_yields_List is_ascii_digit _ _ c.all.result c.all.ensures.ran (YieldsList-from_slice s cc) (λ x b q k. search (rules, tests)) in
+    number_is s all (omega (arith, false-eqb _ 0 (sym c.if-not-is_empty.true ∙ c.is_empty.ensures)))
 
-pub returns-then-not-is_digit : goal.returns-then-not-is_digit
-unfolding is_number
-returns-then-not-is_digit c =
-    let l = c.loop-i in
-    rw (← l.invariant.1, each-fails digits-each c.args.s.now l.i (omega arith) (sym c.is_digit.ensures ∙ c.if-not-is_digit.true))
-
-pub loop-i-preserved : goal.loop-i-preserved
-loop-i-preserved c =
-    let l = c.loop-i in
-    (omega arith, each_next digits-each c.args.s.now l.i (omega arith) (sym c.is_digit.ensures ∙ c.if-not-is_digit.false) ∙ l.invariant.1)
-
-pub returns : goal.returns
-unfolding is_number
-returns c =
-    let l = c.loop-i in
-    rw (← l.invariant.1, each-end digits-each c.args.s.now l.i (omega arith))
+pub returns-else-not-is_empty : goal.returns-else-not-is_empty
+returns-else-not-is_empty c = rw c.if-not-is_empty.false (number-none c.args.s.now (true-eqb _ 0 (sym c.if-not-is_empty.false ∙ c.is_empty.ensures)))

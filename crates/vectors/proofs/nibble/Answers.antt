@@ -1,27 +1,13 @@
--- `vectors::nibble` meets its contract. The three ranges of hex digits, and the bytes before, between and behind them.
--- Assumes nothing.
-use native.Mathlib.Omega.{arith}
-use mathlib.Core.Path.{sym}
-use Rattle.vectors.proofs.Spellings.{nibble-digit, nibble-capital, nibble-small, nibble-none}
+-- What std says of the digit.
+use Rattle.std.proofs.Common.{◌∙◌, ap, ltb}
+use Rattle.vectors.specs.Vectors.{nibble}
+use Rattle.vectors.proofs.Spellings.{nibble-given}
 use Rattle.vectors.proofs.nibble.Goals as goal
 
-pub returns-then-c-lt48 : goal.returns-then-c-lt48
-returns-then-c-lt48 c = (sym (nibble-none c.args.c (omega arith)), omega arith)
+pub returns-clause-value : goal.returns-clause-value
+returns-clause-value c =
+    (nibble-given c.from.result c.to_digit.result c.to_digit.ensures.value).0 ∙ ap nibble c.from.ensures
 
-pub returns-then-c-lt58 : goal.returns-then-c-lt58
-returns-then-c-lt58 c = (sym (nibble-digit c.args.c (omega arith) (omega arith)), omega arith)
-
-pub returns-then-c-lt65 : goal.returns-then-c-lt65
-returns-then-c-lt65 c = (sym (nibble-none c.args.c (omega arith)), omega arith)
-
-pub returns-then-c-lt71 : goal.returns-then-c-lt71
-returns-then-c-lt71 c = (sym (nibble-capital c.args.c (omega arith) (omega arith)), omega arith)
-
-pub returns-then-c-lt97 : goal.returns-then-c-lt97
-returns-then-c-lt97 c = (sym (nibble-none c.args.c (omega arith)), omega arith)
-
-pub returns-then-c-lt103 : goal.returns-then-c-lt103
-returns-then-c-lt103 c = (sym (nibble-small c.args.c (omega arith) (omega arith)), omega arith)
-
-pub returns-else-c-lt103 : goal.returns-else-c-lt103
-returns-else-c-lt103 c = (sym (nibble-none c.args.c (omega arith)), omega arith)
+pub returns-clause-variant : goal.returns-clause-variant
+returns-clause-variant c =
+    (nibble-given c.from.result c.to_digit.result c.to_digit.ensures.value).1 ∙ ap (λ n. ltb (nibble n) 16) c.from.ensures

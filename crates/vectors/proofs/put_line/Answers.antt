@@ -5,6 +5,7 @@ use native.Mathlib.Nat.{zero-add}
 use Prim.Native.Nat.{ℕ, ◌+◌, ◌<◌}
 use mathlib.Core.Path.{◌≡◌, ◌∙◌}
 use lib.ListN.{length, length-set}
+use Rattle.format.specs.Answer.{answer_of}
 use Rattle.vectors.proofs.Spellings.{label-laid, hex-laid, line-laid}
 use Rattle.vectors.proofs.put_line.Goals as goal
 use Rattle.vectors.proofs.put_line.Goals.{After-put_hex-r}
@@ -39,5 +40,5 @@ returns c =
     let n = c.put_name-p.ensures in
     let e = c.put_answer-q.ensures in
     let f = c.put_hex-r.ensures in
-    let h = line-laid a.name.now a.o.now a.sheet.now a.a (label-laid a.name.now a.o.now n.value n.o_after) (e.value.0, e.o_after) (hex-laid a.sheet.now _ (c.put_answer-q.result + 1) f.value f.o_after) in
+    let h = line-laid a.name.now a.o.now a.sheet.now (answer_of a.a) (label-laid a.name.now a.o.now n.value n.o_after) (e.value.0, e.o_after) (hex-laid a.sheet.now _ (c.put_answer-q.result + 1) f.value f.o_after) in
     record { value = (h.0 ∙ zero-add _, rw length-set (omega (arith, room (goal.at.returns c).After-put_hex-r))); o_after = h.1 }

@@ -1,27 +1,22 @@
 -- `vectors::unhex` meets its contract. The loop keeps that the pairs left, stored behind those so far, give the whole.
 -- Assumes nothing.
-use mathlib.Core.Path.{refl, ap₂}
-use Prim.Native.Nat.{ℕ, ◌+◌, ◌*◌, ◌<◌}
+use mathlib.Core.Path.{refl, ap₂, ◌∙◌}
+use borrow.Author.Tests.{lt-ltb}
+use Prim.Native.Nat.{ℕ, ◌+◌, ◌*◌}
 use native.Mathlib.Omega.{arith}
 use Rattle.vectors.specs.Vectors.{unhexed}
-use Rattle.vectors.proofs.Spellings.{nibble-below, pairs_start, pairs-turn, pairs_end}
+use Rattle.vectors.proofs.Spellings.{nibble-below, nibble-found, pairs_start, pairs-turn, pairs_end}
 use Rattle.vectors.proofs.unhex.Goals as goal
-use Rattle.vectors.proofs.unhex.Goals.{After-nibble}
 
 pub loop-i-init : goal.loop-i-init
 loop-i-init c = (omega arith, refl, pairs_start _ _ _)
 
 -- the first digit of a pair is below 16
-first-digit : (c : After-nibble) → c.nibble.result < 16
-first-digit c =
-    omega (arith, nibble-below c.args.s.now (2 * c.loop-i.i) c.requires.s_value (omega arith))
+pub unwrap-requires : goal.unwrap-requires
+unwrap-requires c = c.nibble.ensures.variant ∙ lt-ltb _ 16 (nibble-below c.args.s.now (2 * c.loop-i.i) c.requires.s_value (omega arith))
 
-pub overflow_mul-o : goal.overflow_mul-o
-overflow_mul-o c = omega (arith, first-digit (goal.at.overflow_mul-o c).After-nibble)
-
-pub overflow_add-o : goal.overflow_add-o
-overflow_add-o c =
-    omega (arith, first-digit (goal.at.overflow_add-o c).After-nibble, nibble-below c.args.s.now (2 * c.loop-i.i + 1) c.requires.s_value (omega arith))
+pub unwrap-requires-in-loop-i : goal.unwrap-requires-in-loop-i
+unwrap-requires-in-loop-i c = c.nibble-in-loop-i.ensures.variant ∙ lt-ltb _ 16 (nibble-below c.args.s.now (2 * c.loop-i.i + 1) c.requires.s_value (omega arith))
 
 pub loop-i-preserved : goal.loop-i-preserved
 loop-i-preserved c =
@@ -29,7 +24,7 @@ loop-i-preserved c =
     let l = c.loop-i in (
       omega arith,
       refl,
-      pairs-turn a.s.now a.o.now l.o _ l.i (omega arith) l.invariant.2 (ap₂ (λ (x y : ℕ). x * 16 + y) c.nibble.ensures.0 c.nibble-in-loop-i.ensures.0),
+      pairs-turn a.s.now a.o.now l.o _ l.i (omega arith) l.invariant.2 (ap₂ (λ (x y : ℕ). x * 16 + y) (nibble-found c.nibble.ensures.value c.unwrap.ensures) (nibble-found c.nibble-in-loop-i.ensures.value c.unwrap-in-loop-i.ensures)),
     )
 
 pub returns : goal.returns

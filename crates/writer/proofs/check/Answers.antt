@@ -2,8 +2,7 @@
 -- Assumes nothing.
 use mathlib.Core.Path.{ap}
 use mathlib.Core.List.{[]}
-use Rattle.format.specs.declared.Answer.{Answer}
-use Rattle.format.specs.Answer.{outcome}
+use Rattle.format.specs.Answer.{Answer, outcome}
 use Rattle.format.specs.Writer.{check}
 use Rattle.writer.proofs.check.Goals as goal
 

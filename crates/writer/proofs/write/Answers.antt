@@ -1,27 +1,28 @@
 -- `writer::write` meets its contract. The room is looked at last.
 -- Assumes nothing.
-use mathlib.Core.Path.{sym, ap, ◌∙◌}
-use Rattle.format.specs.declared.Answer.{Answer}
-use Rattle.format.specs.Answer.{outcome}
+use mathlib.Core.Path.{refl, ap, ◌∙◌}
+use Rattle.std.specs.Prelude.{Err}
+use Rattle.std.proofs.lemmas.Result.{err_from_is_err_and}
+use Rattle.format.specs.Answer.{Answer, answer_of, outcome}
 use Rattle.writer.proofs.WriterRows.{write-refused, write-short, write-laid}
 use Rattle.writer.proofs.write.Goals as goal
 
-pub returns-then-room-length : goal.returns-then-room-length
-returns-then-room-length c =
+pub returns-in_err-counts : goal.returns-in_err-counts
+returns-in_err-counts c =
     let a = c.args in
-    let w = c.write_where_room-a in
-    ap (λ (r : Answer). outcome r w.new.o) c.refused.ensures
-    ∙ write-short a.x.now a.o.now _ _ w.ensures _ _ _ _ c.in-Accepted.is c.if-room-length.true
+    let w = c.write_where_room in
+    let (f, p, e) = err_from_is_err_and c.from_residual.result c.from_residual.ensures.1 in
+    ap (λ (r : Answer). outcome r w.new.o) (ap answer_of (p ∙ ap Err e))
+    ∙ write-refused a.x.now a.o.now _ _ c.in_err-counts.ensures _ _ _ refl
 
-pub returns-in-Refused : goal.returns-in-Refused
-returns-in-Refused c =
+pub returns-then-room-counts : goal.returns-then-room-counts
+returns-then-room-counts c =
     let a = c.args in
-    let w = c.write_where_room-a in
-    write-refused a.x.now a.o.now _ _ w.ensures _ _ _ c.in-Refused.is
+    let w = c.write_where_room in
+    ap (λ (r : Answer). outcome r w.new.o) c.row.ensures
+    ∙ write-short a.x.now a.o.now _ _ c.in_ok-counts.ensures _ _ _ _ refl c.if-room-counts.true
 
-pub returns-else-room-length : goal.returns-else-room-length
-returns-else-room-length c =
+pub returns : goal.returns
+returns c =
     let a = c.args in
-    let w = c.write_where_room-a in
-    ap (λ (r : Answer). outcome r w.new.o) (sym c.in-Accepted.is)
-    ∙ write-laid a.x.now a.o.now _ _ w.ensures _ _ _ _ c.in-Accepted.is c.if-room-length.false
+    write-laid a.x.now a.o.now _ _ c.in_ok-counts.ensures _ _ _ _ refl c.if-room-counts.false

@@ -7,5 +7,5 @@ use Rattle.writer.proofs.write_shaped.Goals as goal
 pub returns-then-n-gt-LONGEST_PACKET : goal.returns-then-n-gt-LONGEST_PACKET
 returns-then-n-gt-LONGEST_PACKET c =
     let x = c.args.x.now in
-    settled-refused x c.args.o.now _ 19 0 0 c.refused.ensures
+    settled-refused x c.args.o.now _ 19 0 0 c.row.ensures
     (row-19-packet x c.requires.0 (omega (arith, c.requires.1, c.if-n-gt-LONGEST_PACKET.true)))

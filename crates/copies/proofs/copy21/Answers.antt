@@ -1,8 +1,0 @@
--- `copies::copy21` meets its contract. Two copies, one after the other.
--- Assumes nothing.
-use native.Mathlib.Omega.{arith}
-use Rattle.copies.proofs.Copied.{copied-both}
-use Rattle.copies.proofs.copy21.Goals as goal
-
-pub returns : goal.returns
-returns c = let a = c.args in copied-both 20 1 a.s.now a.o.now a.p a.q (omega arith) c.copy20.ensures c.copy1.ensures
