@@ -25,18 +25,6 @@ pub struct Plan {
     pub count: usize,
 }
 
-// The bytes that field n of width w takes.
-fn width_if(mask: u64, n: usize, w: u8) -> usize
-    requires { (2 ≤ n) × (n ≤ 65) }
-    ensures { (result ≡ taken mask n w) × (result < 256) }
-{
-    if mask::has(mask, n) {
-        usize::from(w)
-    } else {
-        0
-    }
-}
-
 // The widths of D32.1 to D32.18.
 const TARGET_WIDTHS: [u8; 18] = [2, 4, 4, 2, 2, 2, 2, 2, 1, 1, 1, 2, 2, 1, 2, 1, 4, 1];
 
@@ -48,7 +36,7 @@ fn span(mask: u64, first: usize, last: usize) -> usize
 {
     let mut at = 0;
     for n in first..last + 1 {
-        at += width_if(mask, n, TARGET_WIDTHS[n - 32]);
+        at += mask::width_if(mask, n, TARGET_WIDTHS[n - 32]);
     }
     at
 }
@@ -122,7 +110,7 @@ fn area(b: &[u8], mask: u64, at: usize) -> format::Area
 {
     format::Area {
         d10: position::latitude_steps(i32_if(b, mask, 10, 31)),
-        d11: position::Ba32(u32_if(b, mask, 11, 31 + width_if(mask, 10, 4))),
+        d11: position::Ba32(u32_if(b, mask, 11, 31 + mask::width_if(mask, 10, 4))),
         d24: position::latitude_steps(octets::get_i32(b, at)),
         d25: position::Ba32(octets::get_u32(b, at + 4)),
     }

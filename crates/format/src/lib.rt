@@ -6,13 +6,13 @@ ghost use Rattle.format.specs.Check.{Failed, check_of};
 ghost use Rattle.format.specs.Answer.{Refused, answer_of};
 
 // What the caller asks of a reading: the edition whose tables are used. A further setting becomes a field here.
-#[derive(Clone, Copy)]
+#[derive(Clone, Copy, Debug, PartialEq, Eq)]
 pub struct Settings {
     pub edition: u32,
 }
 
 // A reading, document 01's term: what is asked for, and the version of the packet that is read, from its P1.
-#[derive(Clone, Copy)]
+#[derive(Clone, Copy, Debug, PartialEq, Eq)]
 pub struct Reading {
     pub settings: Settings,
     pub version: u8,
@@ -20,7 +20,7 @@ pub struct Reading {
 
 // What a target's position takes from its dwell: the scale factors D10 and D11 of its deltas, and the center of the dwell area, D24 and D25,
 // that they are added to.
-#[derive(Clone, Copy)]
+#[derive(Clone, Copy, Debug, PartialEq, Eq)]
 pub struct Area {
     pub d10: position::Sa32,
     pub d11: position::Ba32,

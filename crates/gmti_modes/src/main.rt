@@ -18,7 +18,6 @@ use streams::Failed;
 use vectors::Fault;
 
 // The name of a system, in at most 11 bytes.
-
 fn name(system: u8) -> &'static [u8]
     requires { system ≤ 12 }
     ensures { (result.now ≡ ascii (name_of system)) × (length result.now ≤ 11) }

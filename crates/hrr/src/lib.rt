@@ -102,18 +102,6 @@ pub struct Scatterers {
     pub count: usize,
 }
 
-// The bytes that field n of width w takes.
-fn width_if(mask: u64, n: usize, w: u8) -> usize
-    requires { (2 ≤ n) × (n ≤ 65) }
-    ensures { (result ≡ taken mask n w) × (result ≤ 255) }
-{
-    if mask::has(mask, n) {
-        usize::from(w)
-    } else {
-        0
-    }
-}
-
 // The number in the two bytes at `at` where the mask announces field n, and else 0.
 fn number_if(b: &[u8], mask: u64, n: usize, at: usize) -> u16
     requires { (2 ≤ n) × (n ≤ 65) × (announced mask n ≡ true → at + 2 ≤ length b.now) }
@@ -143,10 +131,10 @@ fn with_widths(mask: u64, h25: u8, h26: u8, count: usize) -> Scatterers
     ensures { (result ≡ with_widths mask h25 h26 count) × Bounded result }
 {
     Scatterers {
-        magnitude: width_if(mask, 32, h25),
-        phase: width_if(mask, 33, h26),
-        range: width_if(mask, 34, INDEX),
-        doppler: width_if(mask, 35, INDEX),
+        magnitude: mask::width_if(mask, 32, h25),
+        phase: mask::width_if(mask, 33, h26),
+        range: mask::width_if(mask, 34, INDEX),
+        doppler: mask::width_if(mask, 35, INDEX),
         count,
     }
 }
@@ -172,8 +160,8 @@ pub fn scatterers_in(b: &[u8], mask: u64, at: usize) -> Scatterers
     ensures { (result ≡ scatterers_of mask (hrr_fields b.now)) × Bounded result }
 {
     let h6 = MASK + mask::four(mask, 2, &LENGTHS_H2_TO_5);
-    let h7 = h6 + width_if(mask, 6, 2);
-    let h8 = h7 + width_if(mask, 7, 2);
+    let h7 = h6 + mask::width_if(mask, 6, 2);
+    let h8 = h7 + mask::width_if(mask, 7, 2);
     let count = count_of(
         mask,
         number_if(b, mask, 6, h6),

@@ -4,7 +4,7 @@
 
 ghost use Rattle.std.specs.Prelude.{◌≡◌, not, ◌&&◌, ℕ, ◌-◌, ◌/◌, ◌%◌, ◌^◌, ◌≤◌, ◌<◌, get_or, eqb};
 ghost use Rattle.std.specs.Int.Bits.{bit_and};
-ghost use Rattle.mask.specs.Fields.{announced, announced_length, dwell_widths, target_widths, dwell_size};
+ghost use Rattle.mask.specs.Fields.{announced, taken, announced_length, dwell_widths, target_widths, dwell_size};
 ghost use Rattle.mask.specs.InnerFields.{widths, Required};
 ghost use Rattle.mask.specs.Mask.{is_fault, is_doubled, lowest_fault, new_in_mask, is_placed};
 
@@ -69,6 +69,14 @@ pub fn has(mask: u64, n: usize) -> bool
     ensures { result ≡ announced mask n }
 {
     (mask >> (65 - n)) & 1 == 1
+}
+
+// The bytes that field n of width w takes.
+pub fn width_if(mask: u64, n: usize, w: u8) -> usize
+    requires { (2 ≤ n) × (n ≤ 65) }
+    ensures { (result ≡ taken mask n w) × (result ≤ 255) }
+{
+    if has(mask, n) { usize::from(w) } else { 0 }
 }
 
 // D32.4 and D32.5, where they are set beside D32.2 and D32.3.

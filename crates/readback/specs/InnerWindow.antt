@@ -1,4 +1,4 @@
--- The window that records are laid out in to be compared. Inner contracts alone speak of it.
+-- The window that records are laid out in to be compared. Proofs alone speak of it.
 -- Assumes nothing.
 use Rattle.std.specs.Prelude.{ℕ}
 
