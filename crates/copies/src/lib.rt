@@ -39,6 +39,17 @@ pub fn copy_all(s: &[u8], o: &mut [u8], q: usize)
     o[q..q + s.len()].copy_from_slice(s);
 }
 
+// All of s, of a length that the compiler does not know. `copy_all` calls memmove there, and the library for C is to ask for no such function.
+// Kept: by places, as `copied_next` says it: a place of s and one of o, which goes on from q.
+pub fn copy_each(s: &[u8], o: &mut [u8], q: usize)
+    requires { q + length s.now ≤ length o.old }
+    ensures { o.new ≡ sets o.old q s.now }
+{
+    for i in 0..s.len() {
+        o[q + i] = s[i];
+    }
+}
+
 // n zeros.
 pub fn clear(o: &mut [u8], q: usize, n: usize)
     requires { q + n ≤ length o.old }

@@ -122,6 +122,6 @@ module _ (line lent1 lent3 buffer : List ℕ) {r : Result (Unit {0}) Fault} (e :
   unfolding answer_of text_of
   nothing_said h = rw (← e, h)
 
-  pub fault-said : {name : ℕ} {f : Fault} → name ≡ before 58 line → r ≡ Err f → answer_of line lent1 lent3 buffer ≡ unread_line (take name line) f
+  pub fault-said : {name : ℕ} {f : Fault} → name ≡ before 58 line → r ≡ Err f → answer_of line lent1 lent3 buffer ≡ unread_line (take name line) (Err f)
   unfolding answer_of said_of name_of unread_line text_of
   fault-said k h = rw (← e, h, k)

@@ -38,7 +38,7 @@ line_fault line = cond (is_colon (drop (before 58 line) line)) (hex_fault (hex_o
 -- what is said of a line: what is said of its packet, or what is wrong with it
 unfoldable pub text_of : Result (Unit {0}) Fault → List ℕ → List ℕ
 text_of (Ok _) said = said
-text_of (Err f) said = fault_text f
+text_of (Err f) said = fault_text (Err f)
 
 -- a line's name, a colon, a space, and what is said of it
 unfoldable pub said_of : List ℕ → List ℕ → List ℕ

@@ -389,7 +389,7 @@ fn answer(
 {
     let name = lines::find(line, 0, b':');
     match fault(line, name) {
-        Err(f) => vectors::put_unread(out, &line[..name], f),
+        Err(f) => vectors::put_unread(out, &line[..name], Err(f)),
         Ok(()) => put_packet(line, name, packet, older, newer, buffer, out),
     }
 }
@@ -399,7 +399,7 @@ fn put_cut(front: &[u8], out: &mut [u8]) -> usize
     requires { length front.now + 16 ≤ length out.old }
 {
     let name = lines::find(front, 0, b':');
-    vectors::put_unread(out, &front[..name], vectors::Fault::Length)
+    vectors::put_unread(out, &front[..name], Err(vectors::Fault::Length))
 }
 
 // The longest line that is read, with its end; two digits of it spell a byte. The answer has its name, and at most 95 bytes behind it.

@@ -35,7 +35,7 @@ fn asked(input: &[u8]) -> Option<usize>
     if word.starts_with(b"0") {
         return None;
     }
-    let k = vectors::number(word)? as usize;
+    let k = vectors::number_of(word)? as usize;
     if 1 <= k && k <= MOST { Some(k) } else { None }
 }
 

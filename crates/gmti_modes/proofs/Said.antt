@@ -63,6 +63,6 @@ module _ (line : List ℕ) where
   unfolding answer_of ascii
   mode-answer h k = rw (h, k)
 
-  pub unread-answer : is_mode line ≡ false → answer_of line ≡ unread_line line Number
+  pub unread-answer : is_mode line ≡ false → answer_of line ≡ unread_line line (Err Number)
   unfolding answer_of
   unread-answer h = rw h

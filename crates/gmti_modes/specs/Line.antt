@@ -1,6 +1,6 @@
 -- The line that answers a line with the number of a radar mode.
 -- Assumes nothing.
-use Rattle.std.specs.Prelude.{ℕ, Bool, true, false, ◌&&◌, cond, List, [], ◌∷◌, ◌++◌, leb}
+use Rattle.std.specs.Prelude.{ℕ, Bool, true, false, ◌&&◌, cond, List, [], ◌∷◌, ◌++◌, leb, Err}
 use Prim.Native.Char.{code}
 use Prim.Native.String.{String, [] as []ˢ, ◌∷◌ as ◌∷ˢ◌}
 use Rattle.format.specs.Edition.{is_new_mode}
@@ -37,4 +37,4 @@ mode_text mode =
 
 -- the line that answers a line: the line, a colon, a space, and what is said of its mode; or that it is no mode's number
 unfoldable pub answer_of : List ℕ → List ℕ
-answer_of line = cond (is_mode line) (line ++ ascii ": " ++ mode_text (spelt line 0) ++ ascii "\n") (unread_line line Number)
+answer_of line = cond (is_mode line) (line ++ ascii ": " ++ mode_text (spelt line 0) ++ ascii "\n") (unread_line line (Err Number))

@@ -86,7 +86,7 @@ fn put_mode(o: &mut [u8], at: usize, mode: u8) -> usize
 fn mode_of(line: &[u8]) -> Option<u8>
     ensures { MatchOption result (is_mode line.now ≡ false) (λ mode. (is_mode line.now ≡ true) × (mode ≡ spelt line.now 0)) }
 {
-    let n = vectors::number(line)?;
+    let n = vectors::number_of(line)?;
     u8::try_from(n).ok()
 }
 
@@ -97,7 +97,7 @@ fn answer(line: &[u8], o: &mut [u8]) -> usize
     ensures o_after { o.new ≡ sets o.old 0 (answer_of line.now) }
 {
     let Some(mode) = mode_of(line) else {
-        return vectors::put_unread(o, line, Fault::Number);
+        return vectors::put_unread(o, line, Err(Fault::Number));
     };
     let p = vectors::put_name(o, line);
     let q = put_mode(o, p, mode);
@@ -124,7 +124,7 @@ fn run(
         {
             let n = match line {
                 Line::Whole(line) => answer(line, out),
-                Line::Cut(front) => vectors::put_unread(out, front, Fault::Length),
+                Line::Cut(front) => vectors::put_unread(out, front, Err(Fault::Length)),
             };
             streams::write_all(
                 rt,

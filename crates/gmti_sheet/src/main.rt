@@ -2,8 +2,11 @@
 // output, or the line of the refusal.
 #![tactic(auto)]
 
-ghost use Rattle.std.specs.Prelude.{◌≡◌, cond, [], ◌∷◌, ◌≤◌, length, Some, None};
+ghost use Rattle.std.specs.Prelude.{◌≡◌, cond, [], ◌∷◌, ◌≤◌, length, Some, None, unwrap_or};
+ghost use Rattle.format.specs.Edition.{as_edition};
+ghost use Rattle.format.specs.Reader.{read};
 ghost use Rattle.format.specs.Writer.{is_same};
+ghost use Rattle.gmti_sheet.specs.Said.{said_of};
 
 use std::env::{Env, FillError};
 use std::io;
@@ -39,6 +42,7 @@ fn answer<'a>(
     line: &'a mut [u8],
 ) -> &'a [u8]
     requires { 96 ≤ length line.old }
+    ensures { result.now ≡ said_of (read (as_edition (unwrap_or edition 0)) packet.now sheet.old) }
 {
     let a = reader::read(edition.unwrap_or(0), packet, sheet);
     match a {

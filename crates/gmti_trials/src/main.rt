@@ -29,7 +29,7 @@ struct Vector {
 fn edition_of(word: &[u8]) -> Result<Option<u32>, Fault> {
     match word {
         b"w" => Ok(None),
-        _ => Ok(Some(vectors::number(word).ok_or(Fault::Number)?)),
+        _ => Ok(Some(vectors::number_of(word).ok_or(Fault::Number)?)),
     }
 }
 
@@ -37,7 +37,7 @@ fn edition_of(word: &[u8]) -> Result<Option<u32>, Fault> {
 fn lent_of(word: &[u8]) -> Result<usize, Fault>
     ensures { IfOk result (λ lent. lent ≤ 8192) }
 {
-    match vectors::number(word) {
+    match vectors::number_of(word) {
         Some(n) if n <= 8192 => Ok(n as usize),
         _ => Err(Fault::Number),
     }
@@ -86,7 +86,7 @@ fn answer(line: &[u8], packet: &mut [u8], sheet: &mut [u8], out: &mut [u8]) -> u
     let end = lines::find(line, 0, b':');
     let name = &line[..end];
     match parse(line, end) {
-        Err(fault) => vectors::put_unread(out, name, fault),
+        Err(fault) => vectors::put_unread(out, name, Err(fault)),
         Ok(v) => {
             let n = vectors::unhex(&line[v.hex..], packet);
             let lent = &mut sheet[..v.lent];
@@ -102,7 +102,7 @@ fn put_cut(front: &[u8], out: &mut [u8]) -> usize
     requires { length front.now + 16 ≤ length out.old }
 {
     let end = lines::find(front, 0, b':');
-    vectors::put_unread(out, &front[..end], Fault::Length)
+    vectors::put_unread(out, &front[..end], Err(Fault::Length))
 }
 
 // The longest line that is read, with its end; two digits of it spell a byte. The answer has its name, the lent bytes in hex, and at most 90

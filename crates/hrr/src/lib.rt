@@ -181,7 +181,7 @@ pub fn each_of(s: Scatterers) -> usize
 }
 
 // The four widths as the digits of a number, by which a loop is chosen that knows them.
-fn pattern_of(s: Scatterers) -> usize
+pub fn pattern_of(s: Scatterers) -> usize
     requires { Narrow s }
     ensures { (digits result ≡ widths_of s) × NarrowDigits result }
 {

@@ -111,10 +111,9 @@ impl Lines {
     {
         let mut end = front;
         while end < b.len() {
-            let n = streams::read_some(rt, what, &mut b[end..])?;
-            if n == 0 {
+            let Some(n) = streams::read_some(rt, what, &mut b[end..])? else {
                 return Ok(self.last(end));
-            }
+            };
             let read = end + n;
             let to = find(&b[..read], end, b'\n');
             if to < read {
@@ -157,10 +156,9 @@ impl Lines {
         ensures { IfOk result (λ next. HeldWithin (length b.new) self.new × IfSome next (NextWithin (length b.new))) }
     {
         for _ in 0..u64::MAX {
-            let n = streams::read_some(rt, what, b)?;
-            if n == 0 {
+            let Some(n) = streams::read_some(rt, what, b)? else {
                 break;
-            }
+            };
             let to = find(&b[..n], 0, b'\n');
             if to < n {
                 return self.line_from(rt, what, b, to + 1, n);

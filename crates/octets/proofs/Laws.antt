@@ -1,9 +1,9 @@
 -- The laws of `be` and `bytes`, each once, for every width.
 -- Assumes nothing.
 use mathlib.Core.Path.{◌≡◌, refl, sym, ap, ap₂, ◌∙◌}
-use mathlib.Core.List.{List, [], ◌∷◌, ◌++◌, append_assoc}
+use mathlib.Core.List.{List, [], ◌∷◌, ◌++◌, append-nil, append_assoc}
 use Prim.Native.Nat.{ℕ, zero, suc, ◌+◌, ◌-◌, ◌*◌, ◌/◌, ◌%◌, ◌^◌, ◌≤◌, ◌<◌}
-use native.Mathlib.Nat.{add-zero, zero-add, add-suc, suc-add, pow-suc, one-le-pow}
+use native.Mathlib.Nat.{add-zero, zero-add, add-suc, suc-add, pow-suc, pow-succ', one-le-pow, div-one, div-div-eq-div-mul}
 use native.Mathlib.Numerals.{add-one}
 use native.Mathlib.Omega.{arith}
 use lib.Dec.{lit<}
@@ -35,15 +35,45 @@ be-lt (suc k) s h = omega (arith, be-lt k s h, h k, pow-suc 256 k)
 pub joined : (j k : ℕ) (s : List ℕ) (at : ℕ) {a b : ℕ} → a ≡ be j (drop at s) → b ≡ be k (drop (at + j) s) → a * 256 ^ k + b ≡ be (j + k) (drop at s)
 joined j k s at ha hb = rw (be-split, drop-drop) (cc)
 
+-- a number of 8 bytes from its four parts of 2
+pub joined-4 : (s : List ℕ) (at : ℕ) {a b c d : ℕ} → a ≡ be 2 (drop at s) → b ≡ be 2 (drop (at + 2) s) → c ≡ be 2 (drop (at + 4) s) → d ≡ be 2 (drop (at + 6) s)
+    → a * 256 ^ 6 + b * 256 ^ 4 + c * 256 ^ 2 + d ≡ be 8 (drop at s)
+joined-4 s at {a} {b} {c} {d} ea eb ec ed =
+    let high : a * 256 ^ 2 + b ≡ be 4 (drop at s) = joined 2 2 s at ea eb in
+    let place : at + 6 ≡ at + 4 + 2 = omega arith in
+    let low : c * 256 ^ 2 + d ≡ be 4 (drop (at + 4) s) = joined 2 2 s (at + 4) ec (ed ∙ ap (λ (i : ℕ). be 2 (drop i s)) place) in
+    omega (arith, joined 4 4 s at high low)
+
 pub length-bytes : (k n : ℕ) → length (bytes k n) ≡ k
 unfolding bytes
 length-bytes zero n = refl
 length-bytes (suc k) n = length-append (bytes k (n / 256)) (n % 256 ∷ []) ∙ ap (λ (m : ℕ). m + 1) (length-bytes k (n / 256)) ∙ add-one k
 
+-- the bytes of a number of j + k bytes are those of its upper part, and those of its lower part
+pub bytes-split : (j k n : ℕ) → bytes (j + k) n ≡ bytes j (n / 256 ^ k) ++ bytes k (n % 256 ^ k)
+unfolding bytes
+bytes-split j zero n = rw (add-zero, append-nil) (ap (bytes j) (sym (div-one n)))
+bytes-split j (suc k) n =
+    let p : 0 < 256 ^ k = one-le-pow k 256 (lit< tt) in
+    let up : n / 256 ^ suc k ≡ n / 256 / 256 ^ k = ap (λ (m : ℕ). n / m) (pow-succ' 256 k) ∙ sym (div-div-eq-div-mul n 256 (256 ^ k)) in
+    let low : n % 256 ^ suc k ≡ (n / 256 % 256 ^ k) * 256 + n % 256 = ap (λ (m : ℕ). n % m) (pow-suc 256 k) ∙ mod-mul n p (lit< tt) in
+    let rest : n % 256 ^ suc k / 256 ≡ n / 256 % 256 ^ k = omega arith in
+    let last : n % 256 ^ suc k % 256 ≡ n % 256 = omega arith in
+    rw (add-suc, up, rest, last, bytes-split j k (n / 256)) (append_assoc (bytes j (n / 256 / 256 ^ k)) (bytes k (n / 256 % 256 ^ k)) (n % 256 ∷ []))
+
 -- two runs of stores, the second where the first ends, are one
 pub sets-sets : (us vs l : List ℕ) (i : ℕ) → sets (sets l i us) (i + length us) vs ≡ sets l i (us ++ vs)
 sets-sets [] vs l i = rw add-zero
 sets-sets (u ∷ us) vs l i = rw (add-suc, ← suc-add) (sets-sets us vs (set l i u) (suc i))
+
+-- so a writer of j + k bytes is made of one of j and one of k
+pub stored : (j k : ℕ) (l : List ℕ) (at n : ℕ) {a b : List ℕ}
+    → a ≡ sets l at (bytes j (n / 256 ^ k)) → b ≡ sets a (at + j) (bytes k (n % 256 ^ k)) → b ≡ sets l at (bytes (j + k) n)
+stored j k l at n ha hb =
+    hb ∙ ap (λ (s : List ℕ). sets s (at + j) (bytes k (n % 256 ^ k))) ha
+    ∙ ap (λ (m : ℕ). sets (sets l at (bytes j (n / 256 ^ k))) (at + m) (bytes k (n % 256 ^ k))) (sym (length-bytes j (n / 256 ^ k)))
+    ∙ sets-sets (bytes j (n / 256 ^ k)) (bytes k (n % 256 ^ k)) l at
+    ∙ ap (sets l at) (sym (bytes-split j k n))
 
 -- reading what was written gives the number, modulo the width
 pub be-bytes : (k n : ℕ) (r : List ℕ) → be k (bytes k n ++ r) ≡ n % 256 ^ k

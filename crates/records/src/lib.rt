@@ -102,7 +102,7 @@ fn last_piece(b: &[u8], o: &mut [u8])
     put_byte(o, 0, format::PieceRecord::KIND);
     put_byte(o, 1, b.len() as u8);
     copies::clear(o, BYTES, FULL);
-    copies::copy_all(b, o, BYTES);
+    copies::copy_each(b, o, BYTES);
 }
 
 // Kept: a loop that counts. With `chunks_exact` zipped to `chunks_exact_mut` the free text takes 1.14 times the reader by hand, and so 1.00 to 1.12,

@@ -206,7 +206,7 @@ fn put_given(kind: u8, b: &[u8], n: usize, o: &mut [u8])
         put_masked_hrr(b, o);
         return;
     }
-    copies::copy_all(&b[..n], o, 0);
+    copies::copy_each(&b[..n], o, 0);
 }
 
 // A record that begins a segment: the segment's header, and what the record gives. It answers how many bytes.
@@ -231,7 +231,7 @@ fn put_piece(b: &[u8], o: &mut [u8]) -> usize
 {
     let count = usize::from(b[0]);
     let to = format::PieceRecord::BYTES + count;
-    copies::copy_all(&b[format::PieceRecord::BYTES..to], o, 0);
+    copies::copy_each(&b[format::PieceRecord::BYTES..to], o, 0);
     count
 }
 

@@ -3,7 +3,7 @@
 // interrupts is made again. Nothing is allocated.
 #![tactic(auto)]
 
-ghost use Rattle.std.specs.Prelude.{◌≤◌, length, IfOk};
+ghost use Rattle.std.specs.Prelude.{◌≡◌, ◌≤◌, length, IfOk, IfSome, MatchOption};
 
 use std::io::{Cursor, ErrorKind, Read, Write};
 use std::str::from_utf8;
@@ -13,17 +13,28 @@ use std::{fmt, io};
 #[derive(Clone, Copy, Debug, PartialEq, Eq, Drop)]
 pub struct Failed;
 
-// Some bytes of standard input, at the front of o; answers how many, and 0 at the end of the input. Where o has no room, nothing read
-// would look like the end of the input. A proved loop has to end, and nothing says that signals do: so it has more turns than any run
-// uses up.
-pub fn read_some(rt: &(impl io::Input + Eprint), what: &[u8], o: &mut [u8]) -> Result<usize, Failed>
+// What a read gave that moved n bytes: so many, or none at the end of the input.
+fn bytes_or_end(n: usize) -> Option<usize>
+    ensures { MatchOption result (n ≡ 0) (λ k. (k ≡ n) × (1 ≤ k)) }
+{
+    if n == 0 { None } else { Some(n) }
+}
+
+// Some bytes of standard input, at the front of o; answers how many, one at least, and none at the end of the input. Where o has no room,
+// nothing read would look like the end of the input. A proved loop has to end, and nothing says that signals do: so it has more turns
+// than any run uses up.
+pub fn read_some(
+    rt: &(impl io::Input + Eprint),
+    what: &[u8],
+    o: &mut [u8],
+) -> Result<Option<usize>, Failed>
     requires { 1 ≤ length o.old }
-    ensures { IfOk result (λ n. n ≤ length o.old) }
+    ensures { IfOk result (λ read. IfSome read (λ n. (1 ≤ n) × (n ≤ length o.old))) }
 {
     for _ in 0..u64::MAX {
         match rt.reader().read(o) {
             Ok(n) => {
-                return Ok(n);
+                return Ok(bytes_or_end(n));
             }
             Err(e) if e.kind() == ErrorKind::Interrupted => {}
             Err(e) => {
@@ -40,10 +51,9 @@ pub fn read_all(rt: &(impl io::Input + Eprint), what: &[u8], o: &mut [u8]) -> Re
 {
     let mut n = 0;
     while n < o.len() {
-        let k = read_some(rt, what, &mut o[n..])?;
-        if k == 0 {
+        let Some(k) = read_some(rt, what, &mut o[n..])? else {
             return Ok(n);
-        }
+        };
         n += k;
     }
     Ok(n)

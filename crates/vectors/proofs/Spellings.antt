@@ -1,6 +1,6 @@
 -- The cases of characters, the turns of the loops over text, and the lines that are written.
 -- Assumes nothing.
-use mathlib.Core.Path.{◌≡◌, refl, sym, ap, ◌∙◌}
+use mathlib.Core.Path.{◌≡◌, refl, ap, ◌∙◌}
 use mathlib.Core.Bool.{Bool, true, false, ◌&&◌, cond, and-true, and-false, and-eq-true_iff}
 use mathlib.Core.List.{List, [], ◌∷◌, ◌++◌}
 use Prim.Native.Nat.{ℕ, zero, suc, ◌+◌, ◌-◌, ◌*◌, ◌/◌, ◌%◌, ◌≤◌, ◌<◌}
@@ -11,9 +11,9 @@ use borrow.Author.Tests.{lt-ltb, le-ltb, ltb-true, lt-leb, leb-true, leb-false}
 use lib.Dec.{ltb, leb, eqb}
 use lib.ListN.{length, get_or, take, drop, set, length-drop, length-set, length-append, drop_of_length-le}
 use lib.Seq.{sets, drop-cons, drop-drop, get_or-drop}
-use Rattle.std.proofs.Common.{Option, Some, None, Ok, Err, IsOk, SomeIff, unwrap_or, is_some}
+use Rattle.std.proofs.Common.{Some, None, Result, Ok, Err, IsOk}
 use Rattle.std.proofs.lemmas.Bool.Decides.{nat_tests}
-use Rattle.std.specs.Char.{digit_value as std_value, is_ascii_digit}
+use Rattle.std.specs.Char.{is_ascii_digit}
 use Rattle.std.specs.List.{list_all, starts_with}
 use Rattle.std.proofs.lemmas.List.{take_all}
 use Rattle.format.specs.Answer.{Answer}
@@ -60,19 +60,6 @@ unfolding is_hex
 hex-all [] = refl
 hex-all (c ∷ s) = rw (hex-all s)
 
--- the value of a hex digit is the one that std gives it
-nibble-is : (c : ℕ) → nibble c ≡ cond (ltb (std_value c) 16) (std_value c) 16
-unfolding nibble
-nibble-is c = grind (arith, nat_tests)
-
-pub nibble-given : (c : ℕ) (r : Option ℕ) → SomeIff r (std_value c < 16) (std_value c) → (unwrap_or r 16 ≡ nibble c) × (is_some r ≡ ltb (nibble c) 16)
-nibble-given c None h =
-    let n : nibble c ≡ 16 = nibble-is c ∙ ap (λ (t : Bool). cond t (std_value c) 16) (le-ltb (std_value c) 16 (omega (arith, h))) in
-    rw n (refl, refl)
-nibble-given c (Some d) h =
-    let n : nibble c ≡ d = nibble-is c ∙ ap (λ (t : Bool). cond t (std_value c) 16) (lt-ltb (std_value c) 16 h.0) ∙ sym h.1 in
-    rw n (refl, sym (lt-ltb d 16 (omega arith)))
-
 -- each digit of text without a fault is below 16
 hex_at : (s : List ℕ) (i : ℕ) → is_hex s ≡ true → i < length s → nibble (get_or s i 0) < 16
 unfolding is_hex
@@ -87,10 +74,6 @@ nibble-below s i h k = hex_at s i (go (is_hex s) (eqb (length s % 2) 0) h) k
     go : (x y : Bool) → IsOk (cond x (cond y (Ok (tt {0})) (Err Half)) (Err Digit)) → x ≡ true
     go true y e = refl
     go false y e = e
-
--- the value of a digit that was found
-pub nibble-found : {n d : ℕ} {r : Option ℕ} → unwrap_or r 16 ≡ n → r ≡ Some d → d ≡ n
-nibble-found v e = sym (ap (λ (r : Option ℕ). unwrap_or r 16) e) ∙ v
 
 -- one digit more
 pub spelt-turn : (s : List ℕ) (i n : ℕ) → i < length s → spelt (drop (i + 1) s) (with_digit n (get_or s i 0)) ≡ spelt (drop i s) n
@@ -208,7 +191,7 @@ line-laid name l sheet x {q = q} {b = b} h k m =
     (laid-join (32 ∷ []) (hexed sheet) b q (refl, refl) m))
 
 -- the line that says so
-pub unread-laid : (name l : List ℕ) (f : Fault) {p q : ℕ} {a b : List ℕ}
+pub unread-laid : (name l : List ℕ) (f : Result (Unit {0}) Fault) {p q : ℕ} {a b : List ℕ}
     → Laid l 0 (name ++ (58 ∷ 32 ∷ [])) p a
     → Laid a p (fault_text f) q b
     → Laid l 0 (unread_line name f) (q + 1) (set b q 10)

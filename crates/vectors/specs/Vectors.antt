@@ -69,16 +69,17 @@ unfoldable pub hexed : List ℕ → List ℕ
 hexed [] = []
 hexed (x ∷ s) = hex_digit (x / 16) ∷ hex_digit (x % 16) ∷ hexed s
 
--- what is said of a line that is not read: "unread" and a word
-unfoldable pub fault_text : Fault → List ℕ
-fault_text Form = 117 ∷ 110 ∷ 114 ∷ 101 ∷ 97 ∷ 100 ∷ 32 ∷ 102 ∷ 111 ∷ 114 ∷ 109 ∷ []
-fault_text Number = 117 ∷ 110 ∷ 114 ∷ 101 ∷ 97 ∷ 100 ∷ 32 ∷ 110 ∷ 117 ∷ 109 ∷ 98 ∷ 101 ∷ 114 ∷ []
-fault_text Digit = 117 ∷ 110 ∷ 114 ∷ 101 ∷ 97 ∷ 100 ∷ 32 ∷ 100 ∷ 105 ∷ 103 ∷ 105 ∷ 116 ∷ []
-fault_text Half = 117 ∷ 110 ∷ 114 ∷ 101 ∷ 97 ∷ 100 ∷ 32 ∷ 104 ∷ 97 ∷ 108 ∷ 102 ∷ []
-fault_text Length = 117 ∷ 110 ∷ 114 ∷ 101 ∷ 97 ∷ 100 ∷ 32 ∷ 108 ∷ 101 ∷ 110 ∷ 103 ∷ 116 ∷ 104 ∷ []
+-- what is said of a line that is not read: "unread" and a word; nothing where nothing is wrong
+unfoldable pub fault_text : Result (Unit {0}) Fault → List ℕ
+fault_text (Ok _) = []
+fault_text (Err Form) = 117 ∷ 110 ∷ 114 ∷ 101 ∷ 97 ∷ 100 ∷ 32 ∷ 102 ∷ 111 ∷ 114 ∷ 109 ∷ []
+fault_text (Err Number) = 117 ∷ 110 ∷ 114 ∷ 101 ∷ 97 ∷ 100 ∷ 32 ∷ 110 ∷ 117 ∷ 109 ∷ 98 ∷ 101 ∷ 114 ∷ []
+fault_text (Err Digit) = 117 ∷ 110 ∷ 114 ∷ 101 ∷ 97 ∷ 100 ∷ 32 ∷ 100 ∷ 105 ∷ 103 ∷ 105 ∷ 116 ∷ []
+fault_text (Err Half) = 117 ∷ 110 ∷ 114 ∷ 101 ∷ 97 ∷ 100 ∷ 32 ∷ 104 ∷ 97 ∷ 108 ∷ 102 ∷ []
+fault_text (Err Length) = 117 ∷ 110 ∷ 114 ∷ 101 ∷ 97 ∷ 100 ∷ 32 ∷ 108 ∷ 101 ∷ 110 ∷ 103 ∷ 116 ∷ 104 ∷ []
 
 -- the line that says so: the line's name, a colon, a space, and what is said of it
-unfoldable pub unread_line : List ℕ → Fault → List ℕ
+unfoldable pub unread_line : List ℕ → Result (Unit {0}) Fault → List ℕ
 unread_line name f = name ++ (58 ∷ 32 ∷ []) ++ fault_text f ++ (10 ∷ [])
 
 -- the line that answers a vector: its name, a colon, a space, the answer, a space, the sheet in hex

@@ -26,10 +26,30 @@ pub fn join(a: u64, k: usize, b: u64) -> u64
     a + (b << (8 * k as u32))
 }
 
-// So many of the lowest bytes of a number, up to all eight.
+// The N lowest bytes of a number.
+fn lowest<const N: usize>(o: &mut [u8], q: usize, v: u64)
+    requires { (N ≤ 8) × (q + N ≤ length o.old) }
+    ensures { o.new ≡ sets o.old q (low N v) }
+{
+    o[q..q + N].copy_from_slice(&v.to_le_bytes()[..N]);
+}
+
+// So many of them, up to all eight.
+// Kept: an arm for each number. Of one that the compiler does not know it would call memcpy, and the library for C is to ask for no such function.
+#[tactic(auto, unfolding(crate::specs::InnerWords::low))]
 pub fn put(o: &mut [u8], q: usize, n: usize, v: u64)
     requires { (n ≤ 8) × (q + n ≤ length o.old) }
     ensures { o.new ≡ sets o.old q (low n v) }
 {
-    o[q..q + n].copy_from_slice(&v.to_le_bytes()[..n]);
+    match n {
+        0 => {}
+        1 => lowest::<1>(o, q, v),
+        2 => lowest::<2>(o, q, v),
+        3 => lowest::<3>(o, q, v),
+        4 => lowest::<4>(o, q, v),
+        5 => lowest::<5>(o, q, v),
+        6 => lowest::<6>(o, q, v),
+        7 => lowest::<7>(o, q, v),
+        _ => lowest::<8>(o, q, v),
+    }
 }

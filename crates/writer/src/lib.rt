@@ -39,7 +39,7 @@ fn write_through(x: &[u8], n: usize, spelt: &mut [u8], o: &mut [u8]) -> Result<C
     let packet = &spelt[..n];
     let counts = read_back(packet, x)?;
     if packet.len() <= o.len() {
-        copies::copy_all(packet, o, 0);
+        copies::copy_each(packet, o, 0);
     }
     Ok(counts)
 }

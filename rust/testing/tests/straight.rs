@@ -52,8 +52,7 @@ fn is_contract(line: &str) -> bool {
     line.starts_with("    requires ") || line.starts_with("    ensures ")
 }
 
-/// Whether code has an array: a bracket that is neither an index nor the type of a slice, or a string of bytes. The bytes that a number is made of
-/// by `from_be_bytes`, at most eight that are read at once, are none.
+/// Whether code has an array: a bracket that is neither an index nor the type of a slice, or a string of bytes.
 fn has_array(code: &str) -> bool {
     let is_word = |sign: char| sign.is_alphanumeric() || sign == '_';
     code.contains("b\"")
@@ -62,8 +61,7 @@ fn has_array(code: &str) -> bool {
             let word = before.rsplit(|sign| !is_word(sign)).next().unwrap_or("");
             let is_index = before.ends_with([')', ']']) || !matches!(word, "" | "mut" | "return" | "in" | "else");
             let inside = code[at + 1..].split(']').next().unwrap_or("");
-            let is_number = before.ends_with("::from_be_bytes(");
-            !is_index && !is_number && !matches!(inside, "u8" | "u16" | "u32" | "u64" | "usize")
+            !is_index && !matches!(inside, "u8" | "u16" | "u32" | "u64" | "usize")
         })
 }
 
@@ -143,7 +141,7 @@ fn pieces_are_spelt_with_no_array_between() {
         "spelling::put_full_pieces",
         &["spelling::put_next", "spelling::put_row", "copies::copy32"],
     );
-    assert_straight(&source, "spelling::spell", "spelling::put_piece", &["spelling::put_record", "copies::copy_all"]);
+    assert_straight(&source, "spelling::spell", "spelling::put_piece", &["spelling::put_record", "copies::copy_each"]);
 }
 
 /// The search finds the arrays that there are.

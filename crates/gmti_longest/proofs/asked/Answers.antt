@@ -9,12 +9,12 @@ returns-then-starts_with c =
 
 pub returns-in_err-k : goal.returns-in_err-k
 returns-in_err-k c =
-    rw c.from_residual.ensures (asked-missing c.args.input.now c.without_line_feed-word.ensures (sym c.number.ensures ∙ c.in_err-k.was))
+    rw c.from_residual.ensures (asked-missing c.args.input.now c.without_line_feed-word.ensures (sym c.number_of.ensures ∙ c.in_err-k.was))
 
 pub returns-then-k-le-MOST : goal.returns-then-k-le-MOST
 returns-then-k-le-MOST c =
-    (asked-some c.args.input.now c.without_line_feed-word.ensures (sym c.starts_with.ensures.value ∙ c.if-starts_with.false) (sym c.number.ensures ∙ c.in_ok-k.was) (omega arith), (omega arith, omega arith))
+    (asked-some c.args.input.now c.without_line_feed-word.ensures (sym c.starts_with.ensures.value ∙ c.if-starts_with.false) (sym c.number_of.ensures ∙ c.in_ok-k.was) (omega arith), (omega arith, omega arith))
 
 pub returns-else-k-ge1 : goal.returns-else-k-ge1
 returns-else-k-ge1 c =
-    asked-outside c.args.input.now c.without_line_feed-word.ensures (sym c.starts_with.ensures.value ∙ c.if-starts_with.false) (sym c.number.ensures ∙ c.in_ok-k.was) c.else-k-ge1.either
+    asked-outside c.args.input.now c.without_line_feed-word.ensures (sym c.starts_with.ensures.value ∙ c.if-starts_with.false) (sym c.number_of.ensures ∙ c.in_ok-k.was) c.else-k-ge1.either

@@ -1,4 +1,4 @@
--- `octets::get_u16` meets its contract. The library's sum of the bytes is `be 2` written out.
+-- `octets::get_u16` meets its contract. The value is `be 2` written out.
 -- Assumes nothing.
 use native.Mathlib.Omega.{arith}
 use native.Mathlib.Nat.{add-zero}

@@ -1,11 +1,8 @@
--- `octets::get_u32` meets its contract. The library's sum of the bytes is `be 4` written out.
+-- `octets::get_u32` meets its contract. Two halves: one law, `joined`.
 -- Assumes nothing.
-use native.Mathlib.Omega.{arith}
-use native.Mathlib.Nat.{add-zero}
-use lib.Seq.{get_or-drop}
-use Rattle.octets.specs.Octets.{be}
+use mathlib.Core.Path.{◌∙◌}
+use Rattle.octets.proofs.Laws.{joined}
 use Rattle.octets.proofs.get_u32.Goals as goal
 
 pub returns : goal.returns
-unfolding be
-returns c = simp (get_or-drop, add-zero) (omega arith)
+returns c = joined 2 2 c.args.s.now c.args.at (c.from.ensures ∙ c.get_u16.ensures) (c.from-2.ensures ∙ c.get_u16-2.ensures)

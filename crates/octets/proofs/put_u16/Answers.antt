@@ -1,8 +1,14 @@
--- `octets::put_u16` meets its contract. The library's bytes are `bytes 2`, and the part written over is a run of stores.
+-- `octets::put_u16` meets its contract. Two stores in a row are a run of stores, by computation.
 -- Assumes nothing.
-use borrow.Author.Rules.{rules}
-use Rattle.octets.proofs.Machine.{written}
+use native.Mathlib.Omega.{arith}
+use native.Mathlib.Numerals.{add-one}
+use lib.ListN.{length-set}
+use Rattle.octets.specs.Octets.{bytes}
 use Rattle.octets.proofs.put_u16.Goals as goal
 
+pub bounds-s-at-2 : goal.bounds-s-at-2
+bounds-s-at-2 c = simp length-set (omega arith)
+
 pub returns : goal.returns
-returns c = search (rules, written 2)
+unfolding bytes
+returns c = rw add-one

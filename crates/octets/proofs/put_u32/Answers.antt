@@ -1,8 +1,7 @@
--- `octets::put_u32` meets its contract. The library's bytes are `bytes 4`, and the part written over is a run of stores.
+-- `octets::put_u32` meets its contract. Two halves: one law, `stored`, which search applies to what the two calls ensure.
 -- Assumes nothing.
-use borrow.Author.Rules.{rules}
-use Rattle.octets.proofs.Machine.{written}
+use Rattle.octets.proofs.Laws.{stored}
 use Rattle.octets.proofs.put_u32.Goals as goal
 
 pub returns : goal.returns
-returns c = search (rules, written 4)
+returns c = search (stored 2 2)

@@ -7,4 +7,4 @@ use Rattle.records.proofs.last_piece.Goals as goal
 pub returns : goal.returns
 returns c =
     let a = c.args in
-    last-laid a.b.now a.o.now (omega arith) c.put_byte.ensures c.put_byte-2.ensures c.clear.ensures c.copy_all.ensures
+    last-laid a.b.now a.o.now (omega arith) c.put_byte.ensures c.put_byte-2.ensures c.clear.ensures c.copy_each.ensures

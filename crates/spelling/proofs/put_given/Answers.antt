@@ -54,15 +54,15 @@ within : (c : Else-kind-eq-KIND-2) → c.args.n ≤ length c.args.b.now
 within c =
     omega (arith, (copied c.args.kind c.args.b.now c.if-kind-eq-KIND.false c.if-kind-eq-KIND-2.false).0, c.requires.1)
 
-pub slice_bounds-copy_all-end : goal.slice_bounds-copy_all-end
-slice_bounds-copy_all-end c = sym (length-take-le _ _ (within (goal.at.slice_bounds-copy_all-end c).Else-kind-eq-KIND-2))
+pub slice_bounds-copy_each-end : goal.slice_bounds-copy_each-end
+slice_bounds-copy_each-end c = sym (length-take-le _ _ (within (goal.at.slice_bounds-copy_each-end c).Else-kind-eq-KIND-2))
 
-pub copy_all-requires : goal.copy_all-requires
-copy_all-requires c =
+pub copy_each-requires : goal.copy_each-requires
+copy_each-requires c =
     omega (arith, length-take c.args.n c.args.b.now, c.requires.2)
 
 pub returns : goal.returns
 returns c =
     let b = c.args.b.now in
-    c.copy_all.ensures
+    c.copy_each.ensures
     ∙ ap (sets c.args.o.now 0) (ap (λ (n : ℕ). take n b) c.requires.1 ∙ (copied c.args.kind b c.if-kind-eq-KIND.false c.if-kind-eq-KIND-2.false).1)

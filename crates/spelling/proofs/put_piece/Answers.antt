@@ -13,7 +13,7 @@ returns c =
     let n = c.from-count in record {
       value = n.ensures;
       o_after =
-          c.copy_all.ensures
+          c.copy_each.ensures
           ∙ ap (sets a.o.now 0) (part-is a.b.now 1 n.result)
           ∙ ap (λ (k : ℕ). sets a.o.now 0 (take k (drop 1 a.b.now))) n.ensures;
     }

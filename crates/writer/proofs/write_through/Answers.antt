@@ -38,7 +38,7 @@ pub returns-then-packet-o : goal.returns-then-packet-o
 returns-then-packet-o c =
     let found = ap answer_of (sym c.in_ok-counts.was) ∙ answered (goal.at.returns-then-packet-o c).After-read_back in
     settled-placed c.args.x.now c.args.o.now _ _ _ found (spelt_is (goal.at.returns-then-packet-o c).After-spell)
-    (placed-laid _ _ c.args.o.now _ _ _ _ _ refl c.if-packet-o.true c.copy_all.ensures)
+    (placed-laid _ _ c.args.o.now _ _ _ _ _ refl c.if-packet-o.true c.copy_each.ensures)
 
 pub returns-else-packet-o : goal.returns-else-packet-o
 returns-else-packet-o c =

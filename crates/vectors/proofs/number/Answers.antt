@@ -2,7 +2,7 @@
 use Rattle.std.proofs.Common.{arith, ap, sym, ◌∙◌, ◌+◌, drop}
 use Rattle.vectors.specs.Vectors.{spelt}
 use Rattle.vectors.proofs.Spellings.{spelt-turn, spelt-end}
-use Rattle.vectors.proofs.spelt.Goals as goal
+use Rattle.vectors.proofs.number.Goals as goal
 
 pub loop-c-preserved : goal.loop-c-preserved
 loop-c-preserved c =
