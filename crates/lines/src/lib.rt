@@ -164,7 +164,8 @@ impl Lines {
                 return self.line_from(rt, what, b, to + 1, n);
             }
         }
-        Ok(self.last(0))
+        *self = Self::empty(Rest::Nothing);
+        Ok(None)
     }
 
     // The next line of standard input, and none at its end.
@@ -180,7 +181,7 @@ impl Lines {
         match self.rest {
             Rest::Lines => self.line_from(rt, what, b, self.from, self.end),
             Rest::CutLine => self.line_behind(rt, what, b),
-            Rest::Nothing => Ok(self.last(0)),
+            Rest::Nothing => Ok(None),
         }
     }
 }
