@@ -241,7 +241,8 @@ const MOST_DWELLS: usize = (format::LONGEST_PACKET - format::HeaderRecord::LEN) 
 // So few that the array for them costs next to nothing: an array is cleared before it is lent.
 const FEW_DWELLS: usize = 32;
 
-// The same by way of an array of N.
+// The same by way of an array of N. It stands apart, so that what is around it does not decide where the search's short loop comes to lie.
+#[inline(never)]
 fn different_in<const N: usize>(r: format::Reading, l: &[u8]) -> usize
     requires { CheckedAll r l.now × (most_dwells l.now ≤ N) × (N ≤ 1364) }
     ensures { result ≡ dwells_in (segments_of r l.now) }
